@@ -1,0 +1,114 @@
+-- What an entry asks for, as facts, and what a list of entries means.
+use mathlib.Core.Path.{_≡_, refl, sym, ap, subst, _∙_}
+use mathlib.Core.List.{List, [], _∷_, _++_}
+use mathlib.Core.Logic.{_⊎_, inl, inr}
+use mathlib.Core.Bool.{Bool, true, false, not, _&&_, _||_}
+use Prim.Native.Nat.{ℕ, zero, suc, _<_, _≤_}
+use native.Mathlib.Omega.{arith}
+use native.Mathlib.Nat.{eq-or-lt-of-le, le-of-suc-le-suc, not-suc-le-zero}
+use native.Mathlib.Decide.{decLt}
+use borrow.Author.Tests.{eqb-true, eq-eqb}
+use Rattle.rulings.specs.Points.{Points, Part, Disjoint}
+use Rattle.rulings.specs.Rulings.{has}
+use Rattle.rulings.specs.declared.ruling.Ruling.{Ruling}
+use Rattle.rulings.proofs.Bytes.{has-past}
+use Rattle.semantics.specs.Meaning.{Meaning, Lawful, AgreeOnRead}
+use Rattle.semantics.proofs.Tests.{false-is-not-true, and-both, and-of, or-left, or-right, both-ways, implies-of, implies-use}
+use Rattle.books.specs.declared.table.Entry.{Entry}
+use Rattle.books.specs.Entries.{any, every-below, for-point, supported, unstruck, fires, looks-at, by-entries}
+use Rattle.books.proofs.Any.{any-implies, any-has, has-any}
+
+every-below-use : (n : ℕ) (test : ℕ → Bool) → every-below n test ≡ true → (b : ℕ) → b < n → test b ≡ true
+unfolding every-below
+every-below-use zero test h b l = absurd (not-suc-le-zero l)
+every-below-use (suc n) test h b l = go (and-both _ _ h) (every-below-use n test) (eq-or-lt-of-le (le-of-suc-le-suc l))
+  where
+    go : (test n ≡ true) × (every-below n test ≡ true) → (every-below n test ≡ true → (b : ℕ) → b < n → test b ≡ true) → (b ≡ n) ⊎ (b < n) → test b ≡ true
+    go p ih (inl e) = subst (λ (k : ℕ). test k ≡ true) (sym e) (p .0)
+    go p ih (inr q) = ih (p .1) b q
+
+every-below-of : (n : ℕ) (test : ℕ → Bool) → ((b : ℕ) → b < n → test b ≡ true) → every-below n test ≡ true
+unfolding every-below
+every-below-of zero test f = refl
+every-below-of (suc n) test f = and-of _ _ (f n (omega arith)) (every-below-of n test (λ b l. f b (omega arith)))
+
+-- a point of a ruling is below 128
+has-below : (r : Ruling) (b : ℕ) → has r b ≡ true → b < 128
+has-below r b h = go (decLt b 128)
+  where
+    go : Dec (b < 128) → b < 128
+    go (yes l) = l
+    go (no n) = false-is-not-true (sym (has-past r b (omega (arith, n))) ∙ h)
+
+nand-of : (s t : Bool) → (s ≡ true → t ≡ false) → not (s && t) ≡ true
+nand-of true t f = ap not (f refl)
+nand-of false t f = refl
+
+nand-use : (s t : Bool) → not (s && t) ≡ true → s ≡ true → t ≡ false
+nand-use true true h e = false-is-not-true h
+nand-use true false h e = refl
+nand-use false t h e = false-is-not-true e
+
+module _ (e : Entry) where
+  pub supported-use : (x : Points) → supported x e ≡ true → Part (has (e .supporters)) x
+  supported-use x h b p =
+      implies-use _ _ (every-below-use 128 (λ c. not (has (e .supporters) c) || x c) h b (has-below (e .supporters) b p)) p
+
+  pub supported-of : (x : Points) → Part (has (e .supporters)) x → supported x e ≡ true
+  supported-of x p = every-below-of 128 (λ c. not (has (e .supporters) c) || x c) (λ b l. implies-of _ _ (p b))
+
+  pub unstruck-use : (y : Points) → unstruck y e ≡ true → Disjoint (has (e .strikers)) y
+  unstruck-use y h b p = nand-use _ _ (every-below-use 128 (λ c. not (has (e .strikers) c && y c)) h b (has-below (e .strikers) b p)) p
+
+  pub unstruck-of : (y : Points) → Disjoint (has (e .strikers)) y → unstruck y e ≡ true
+  unstruck-of y p = every-below-of 128 (λ c. not (has (e .strikers) c && y c)) (λ b l. nand-of _ _ (p b))
+
+  -- an entry that fires, in words
+  pub fires-use : (a : ℕ) (x y : Points) → fires a x y e ≡ true →
+      (e .point ≡ a) × Part (has (e .supporters)) x × Disjoint (has (e .strikers)) y
+  fires-use a x y h =
+      let p = and-both (for-point a e) (supported x e && unstruck y e) h in
+      let q = and-both (supported x e) (unstruck y e) (p .1) in
+      (eqb-true (e .point) a (p .0), supported-use x (q .0), unstruck-use y (q .1))
+
+  pub fires-of : (a : ℕ) (x y : Points) → e .point ≡ a → Part (has (e .supporters)) x → Disjoint (has (e .strikers)) y → fires a x y e ≡ true
+  fires-of a x y s p d = and-of _ _ (eq-eqb (e .point) a s) (and-of _ _ (supported-of x p) (unstruck-of y d))
+
+  -- only what the entry looks at matters
+  pub fires-local : (a : ℕ) (x y x' y' : Points) → ((b : ℕ) → looks-at a b e ≡ true → (x b ≡ x' b) × (y b ≡ y' b)) →
+      fires a x y e ≡ true → fires a x' y' e ≡ true
+  fires-local a x y x' y' agree h =
+      let f = fires-use a x y h in
+      let here : for-point a e ≡ true = eq-eqb (e .point) a (f .0) in
+      fires-of a x' y' (f .0)
+      (λ b p. sym (agree b (and-of _ _ here (or-left _ _ p)) .0) ∙ f .1 b p)
+      (λ b p. sym (agree b (and-of _ _ here (or-right (has (e .supporters) b) (has (e .strikers) b) p)) .1) ∙ f .2 b p)
+
+-- entries for points below n that name only points below n mean a lawful book
+pub entries-lawful : (n : ℕ) (es : List Entry) → 1 ≤ n → n ≤ 128 →
+    ((a : ℕ) → any (for-point a) es ≡ true → a < n) → ((a b : ℕ) → any (looks-at a b) es ≡ true → b < n) → Lawful (by-entries n es)
+entries-lawful n es some few entered read =
+    record {
+      some-point = some;
+      few-points = few;
+      more = λ x x' y a p. any-implies (fires a x y) (fires a x' y)
+          (λ e h. let f = fires-use e a x y h in fires-of e a x' y (f .0) (λ b q. p b (f .1 b q)) (f .2)) es;
+      fewer = λ x y y' a p. any-implies (fires a x y) (fires a x y')
+          (λ e h. let f = fires-use e a x y h in fires-of e a x y' (f .0) (f .1) (λ b q. without (y b) (y' b) (p b) (f .2 b q))) es;
+      local = λ x y x' y' a agree.
+          both-ways (any (fires a x y) es) (any (fires a x' y') es)
+          (through a x y x' y' agree)
+          (through a x' y' x y (λ b q. let s = agree b q in (sym (s .0), sym (s .1))));
+      derives-inside = λ x y a h. entered a (any-implies (fires a x y) (for-point a) (λ e f. and-both (for-point a e) _ f .0) es h);
+      reads-inside = λ a b h. (entered a (any-implies (looks-at a b) (for-point a) (λ e f. and-both (for-point a e) _ f .0) es h), read a b h);
+    }
+  where
+    without : (s t : Bool) → (t ≡ true → s ≡ true) → s ≡ false → t ≡ false
+    without s true f h = false-is-not-true (sym h ∙ f refl)
+    without s false f h = refl
+
+    through : (a : ℕ) (x y x' y' : Points) → AgreeOnRead (by-entries n es) a x y x' y' → any (fires a x y) es ≡ true → any (fires a x' y') es ≡ true
+    through a x y x' y' agree h =
+        let w = any-has (fires a x y) es h in
+        has-any (fires a x' y') es (w .0) (w .1)
+        (fires-local (w .0) a x y x' y' (λ b q. agree b (has-any (looks-at a b) es (w .0) (w .1) q)) (w .2))

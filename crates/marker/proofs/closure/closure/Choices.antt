@@ -1,0 +1,8 @@
+use mathlib.Core.Path.{_≡_}
+use Rattle.rulings.specs.Rulings.{has}
+use Rattle.semantics.proofs.LeastFixpoint.{iterate}
+use Rattle.semantics.proofs.Closures.{step}
+use Rattle.marker.proofs.closure.closure.Given as given
+
+abbrev pub Inv-loop-turn : given.InvT-loop-turn
+Inv-loop-turn g l = has (l .x) ≡ iterate (step (g .B·Book .meaning (l .book)) (has (l .y))) (l .-turn)

@@ -1,0 +1,13 @@
+-- The sixteen combined bytes make the ruling.
+use mathlib.Core.Path.{refl}
+use mathlib.Core.Bool.{_||_}
+use lib.Bits.{bitOr}
+use Rattle.rulings.proofs.Bitwise.{or-bitwise, whole-below, whole-has}
+use Rattle.rulings.proofs.ruling.Ruling.union.Needs as need
+
+pub ghost-result : need.ghost-result
+ghost-result c =
+    (c .loop-i .inv .sixteen, (whole-below bitOr _||_ or-bitwise (c .args .self) (c .args .other) _ _ (c .loop-i-test .left) (c .loop-i .inv), tt))
+
+pub returns : need.returns
+returns c = whole-has bitOr _||_ or-bitwise (c .args .self) (c .args .other) _ _ (c .loop-i-test .left) (c .loop-i .inv) _ refl

@@ -1,0 +1,4 @@
+-- Lemmas of the theory, by topic.
+pub mod Tests
+pub mod LeastFixpoint
+pub mod Closures
