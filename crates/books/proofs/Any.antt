@@ -3,13 +3,14 @@ use mathlib.Core.Path.{_≡_, refl, sym, ap, subst, _∙_}
 use mathlib.Core.List.{List, [], _∷_, _++_}
 use mathlib.Core.Logic.{_⊎_, inl, inr}
 use mathlib.Core.Bool.{Bool, true, false, cond, _||_}
-use Prim.Native.Nat.{ℕ, zero, suc, _+_, _<_, _≤_, suc-le-suc, zero-le}
+use Prim.Native.Nat.{ℕ, zero, suc, _+_, _<_, _≤_, suc-le-suc}
 use native.Mathlib.Omega.{arith}
-use lib.ListN.{length, getD, take, drop}
+use lib.ListN.{length, getD, take}
 use Rattle.std.specs.shelf.Lists.{Has, kept-by}
-use Rattle.std.proofs.shelf.Lists.{take-more, take-all, take-append-drop}
+use Rattle.std.proofs.shelf.Lists.{take-more, take-all}
 use Rattle.semantics.proofs.Tests.{false-is-not-true, or-split, or-left, or-right}
 use Rattle.books.specs.Entries.{any}
+use Rattle.books.proofs.Tests.{or-nothing}
 
 module _ {X : Type 0} (test : X → Bool) where
   pub any-append : (xs ys : List X) → any test (xs ++ ys) ≡ any test xs || any test ys
@@ -58,11 +59,7 @@ any-implies s t f (x ∷ xs) h = go (or-split (s x) (any s xs) h) (any-implies s
 
 -- an element of which the test is false may be added or taken out
 pub any-push : {X : Type 0} (test : X → Bool) (xs : List X) (x : X) → test x ≡ false → any test (xs ++ x ∷ []) ≡ any test xs
-any-push test xs x h = any-append test xs (x ∷ []) ∙ rw h (or-false (any test xs))
-  where
-    or-false : (t : Bool) → t || false ≡ t
-    or-false true = refl
-    or-false false = refl
+any-push test xs x h = any-append test xs (x ∷ []) ∙ or-nothing (any test xs) (test x || false) (rw h refl)
 
 pub any-kept : {X : Type 0} (test keep : X → Bool) → ((x : X) → keep x ≡ false → test x ≡ false) → (xs : List X) → any test (kept-by keep xs) ≡ any test xs
 any-kept test keep f [] = refl

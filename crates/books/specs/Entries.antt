@@ -28,17 +28,17 @@ every-below (suc n) test = test n && every-below n test
 abbrev pub for-point : ℕ → Entry → Bool
 for-point a e = eqb (e .point) a
 
--- all supporters of the entry are in x
-abbrev pub supported : Points → Entry → Bool
-supported x e = every-below 128 (λ b. not (has (e .supporters) b) || x b)
+-- all points of p are in x; p is the set of a ruling, so only points below 128 are asked
+abbrev pub covers : Points → Points → Bool
+covers x p = every-below 128 (λ b. not (p b) || x b)
 
--- none of its strikers is in y
-abbrev pub unstruck : Points → Entry → Bool
-unstruck y e = every-below 128 (λ b. not (has (e .strikers) b && y b))
+-- no point of q is in y
+abbrev pub avoids : Points → Points → Bool
+avoids y q = every-below 128 (λ b. not (q b && y b))
 
 -- the entry is for point a, and a derives by it under (x, y)
 abbrev pub fires : ℕ → Points → Points → Entry → Bool
-fires a x y e = for-point a e && (supported x e && unstruck y e)
+fires a x y e = for-point a e && (covers x (has (e .supporters)) && avoids y (has (e .strikers)))
 
 -- the entry is for point a, and b is among its supporters or strikers
 abbrev pub looks-at : ℕ → ℕ → Entry → Bool

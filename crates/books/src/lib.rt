@@ -1,6 +1,8 @@
-// Books: what a marker sees of them, what they refuse, and the rule book.
+// Books: what a marker sees of them, what they refuse, the rule book and the protest book.
 mod book;
 mod fault;
+mod protest_book;
+mod protesters;
 mod rule_book;
 mod table;
 
@@ -16,6 +18,13 @@ pub use fault::RefusalDebug;
 pub use fault::RefusalPartialEq;
 pub use fault::words::FaultDisplay;
 pub use fault::words::LayerDisplay;
+pub use protest_book::ProtestBook;
+pub use protest_book::as_book::ProtestBookIsBook;
+pub use protest_book::published::protest_chapters_are_evaluated;
+pub use protest_book::published::stable_rulings_are_stable_extensions;
+pub use protest_book::published::sure_points_are_grounded;
 pub use rule_book::RuleBook;
 pub use rule_book::as_book::RuleBookIsBook;
+pub use rule_book::published::rule_chapters_are_evaluated;
+pub use rule_book::published::rule_readings_are_well_founded;
 pub use rule_book::published::stable_rulings_are_stable_models;

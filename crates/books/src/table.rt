@@ -12,21 +12,21 @@ use rulings::Ruling;
 
 // An entry (a rule): the point stands if all its supporters do and none of its strikers does.
 #[derive(Clone, Copy)]
-pub struct Entry {
-    pub point: u8,
-    pub supporters: Ruling,
-    pub strikers: Ruling,
+pub(crate) struct Entry {
+    pub(crate) point: u8,
+    pub(crate) supporters: Ruling,
+    pub(crate) strikers: Ruling,
 }
 
 // The first `count` slots stand, oldest first; the others are free.
 #[derive(Drop)]
-pub struct Table {
+pub(crate) struct Table {
     slots: [Entry; 256],
     count: usize,
 }
 
 impl Table {
-    pub fn new() -> Table
+    pub(crate) fn new() -> Table
         ensures { λ r. ⌜ r .count ≡ 0 ⌝ }
     {
         let free = Entry {
@@ -40,13 +40,13 @@ impl Table {
         }
     }
 
-    pub fn clear(&mut self)
+    pub(crate) fn clear(&mut self)
         ensures { λ _. ⌜ now (self .exit) .count ≡ 0 ⌝ }
     {
         self.count = 0;
     }
 
-    pub fn is_full(&self) -> bool
+    pub(crate) fn is_full(&self) -> bool
         requires { ⌜ now self .count ≤ 256 ⌝ }
         ensures full { λ r. ⌜ r ≡ leb 256 (now (self .entry) .count) ⌝ }
         ensures count { λ _. ⌜ length (standing (now (self .entry))) ≡ now (self .entry) .count ⌝ }
@@ -55,7 +55,7 @@ impl Table {
     }
 
     // One entry more, behind the others.
-    pub fn push(&mut self, entry: Entry)
+    pub(crate) fn push(&mut self, entry: Entry)
         requires { ⌜ now self .count < 256 ⌝ }
         ensures count { λ _. ⌜ now (self .exit) .count ≡ now (self .entry) .count + 1 ⌝ }
         ensures after { λ _. ⌜ standing (now (self .exit)) ≡ standing (now (self .entry)) ++ entry ∷ [] ⌝ }
@@ -65,7 +65,7 @@ impl Table {
     }
 
     // Takes out every entry for the point; the others move up, in their order.
-    pub fn remove(&mut self, point: u8)
+    pub(crate) fn remove(&mut self, point: u8)
         requires { ⌜ now self .count ≤ 256 ⌝ }
         ensures count { λ _. ⌜ now (self .exit) .count ≤ now (self .entry) .count ⌝ }
         ensures after { λ _. ⌜ standing (now (self .exit)) ≡ kept-by (λ e. not (for-point point e)) (standing (now (self .entry))) ⌝ }
@@ -90,7 +90,7 @@ impl Table {
         &self.slots[0..self.count]
     }
 
-    pub fn has_entry_for(&self, point: u8) -> bool
+    pub(crate) fn has_entry_for(&self, point: u8) -> bool
         requires { ⌜ now self .count ≤ 256 ⌝ }
         ensures { λ r. ⌜ r ≡ any (for-point point) (standing (now (self .entry))) ⌝ }
     {
@@ -103,7 +103,7 @@ impl Table {
     }
 
     // Whether the point derives under the pair (x, y) by some entry.
-    pub fn derives(&self, point: u8, x: Ruling, y: Ruling) -> bool
+    pub(crate) fn derives(&self, point: u8, x: Ruling, y: Ruling) -> bool
         requires { ⌜ now self .count ≤ 256 ⌝ }
         ensures { λ r. ⌜ r ≡ any (fires point (has x) (has y)) (standing (now (self .entry))) ⌝ }
     {
@@ -116,7 +116,7 @@ impl Table {
     }
 
     // Whether some entry for the point has the other among its supporters or strikers.
-    pub fn reads(&self, point: u8, other: u8) -> bool
+    pub(crate) fn reads(&self, point: u8, other: u8) -> bool
         requires { ⌜ now self .count ≤ 256 ⌝ }
         ensures { λ r. ⌜ r ≡ any (looks-at point other) (standing (now (self .entry))) ⌝ }
     {

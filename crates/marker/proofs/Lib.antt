@@ -1,3 +1,10 @@
--- Lemmas on closures as the code finds them, and on verdicts.
+-- Lemmas on the table of chapters, on closures and pairs as the code finds them, on upward readings and their audit, and on verdicts.
+pub mod Filling
 pub mod Turns
+pub mod Pairs
+pub mod Numbers
+pub mod Upward
+pub mod Upreading
+pub mod AuditOrder
+pub mod Gathering
 pub mod Verdicts

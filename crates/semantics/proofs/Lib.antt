@@ -2,3 +2,6 @@
 pub mod Tests
 pub mod LeastFixpoint
 pub mod Closures
+pub mod Splitting
+pub mod Alternating
+pub mod SplitReading

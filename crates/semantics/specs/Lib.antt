@@ -1,3 +1,5 @@
--- The meaning of a book and its stable rulings, stated without any code.
+-- The meaning of a book, its stable rulings and its well-founded model, whole and by chapters, stated without any code.
 pub mod Meaning
 pub mod Closure
+pub mod Chapters
+pub mod WellFounded

@@ -22,7 +22,7 @@ pub impl fmt::Display for Fault as FaultDisplay {
         match self.places() {
             (Some(a), Some(b)) => write!(
                 f,
-                "denied by {layer}: {word}, {a} of {b} (refusal {number})"
+                "denied by {layer}: {word}, {a} and {b} (refusal {number})"
             ),
             (Some(a), None) => write!(f, "denied by {layer}: {word}, {a} (refusal {number})"),
             _ => write!(f, "denied by {layer}: {word} (refusal {number})"),

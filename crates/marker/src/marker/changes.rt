@@ -1,10 +1,13 @@
 // Making a marker, and the changes of its book.
 ghost use mathlib.Core.Path.{_≡_};
-ghost use Rattle.marker.specs.State.{book-of, chapters-of, AllInChapter0, ChaptersOpened};
+ghost use Rattle.marker.specs.State.{book-of, chapters-of, ChaptersOpened, Placed};
+ghost use Rattle.marker.specs.Table.{AllInChapter0};
 use super::Marker;
 use crate::chapters::Chapters;
 use books::Book;
 use books::Fault;
+use books::Layer;
+use books::Refusal;
 use rulings::Ruling;
 
 impl<B: Book> Marker<B> {
@@ -41,6 +44,19 @@ impl<B: Book> Marker<B> {
         ensures chapters { λ r. ⌜ chapters-of (now (self .exit)) ≡ chapters-of (now (self .entry)) ⌝ }
     {
         self.book.withdraw(point)?;
+        Ok(())
+    }
+    // Gives the point a chapter.
+    pub fn place(&mut self, point: u8, chapter: u8) -> Result<(), Fault>
+        ensures { λ r. ⌜ Placed (B·Book .meaning (book-of (now (self .entry))) .size) (now (self .entry)) point chapter r (now (self .exit)) ⌝ }
+    {
+        if point >= self.book.size() {
+            return Err(Fault::new(Layer::Marker, Refusal::NoSuchPoint(point)));
+        }
+        if chapter > 15 {
+            return Err(Fault::new(Layer::Marker, Refusal::NoSuchChapter(point)));
+        }
+        self.chapters.place(point, chapter);
         Ok(())
     }
 }

@@ -1,4 +1,4 @@
-// Judging a ruling by the whole book.
+// Judging a ruling by the whole book, and by its chapters.
 ghost use mathlib.Core.Logic.{_↔_};
 ghost use mathlib.Core.Path.{_≡_};
 ghost use Rattle.std.specs.declared.option.Option.the-variants.{None};
@@ -7,11 +7,18 @@ ghost use Rattle.rulings.specs.Points.{Lowest};
 ghost use Rattle.rulings.specs.Rulings.{has};
 ghost use Rattle.semantics.specs.Closure.{Stable as StableIn};
 ghost use Rattle.books.specs.Promise.{stray};
-ghost use Rattle.marker.specs.Judging.{Judged, Compares};
-ghost use Rattle.marker.specs.State.{book-of};
+ghost use Rattle.marker.specs.Judging.{Judged, Compares, PartVerdict, JudgedByChapter, AgreesWithWhole, AgreesWithJudge};
+ghost use Rattle.marker.specs.State.{book-of, chapters-of};
+ghost use Rattle.marker.specs.Table.{chapter-of};
 ghost use Rattle.marker.specs.declared.verdict.Verdict.the-variants as verdict;
 use super::Marker;
 use crate::closure::closure;
+use crate::fitting::first_upward;
+use crate::operator::Chapter;
+use crate::operator::ChapterOperator;
+use crate::operator::Whole;
+use crate::operator::WholeOperator;
+use crate::verdict::ChapterVerdict;
 use crate::verdict::Verdict;
 use books::Book;
 use books::Fault;
@@ -28,7 +35,45 @@ impl<B: Book> Marker<B> {
         if let Some(point) = ruling.first_from(self.book.size()) {
             return Err(Fault::new(Layer::Marker, Refusal::StrayMark(point)));
         }
-        Ok(compare(ruling, closure(&self.book, ruling)))
+        let whole = Whole { book: &self.book };
+        Ok(compare(ruling, closure(&whole, ruling)))
+    }
+
+    // Compares each part of the ruling with its closure in its chapter, up to the first that is not stable.
+    pub fn judge_by_chapter(&self, ruling: Ruling) -> Result<ChapterVerdict, Fault>
+        ensures judged { λ r. ⌜ JudgedByChapter (B·Book .meaning (book-of (now (self .entry)))) (chapter-of (chapters-of (now (self .entry)))) ruling r ⌝ }
+        ensures agrees { λ r. ⌜ AgreesWithWhole (B·Book .meaning (book-of (now (self .entry)))) ruling r ⌝ }
+        ensures same { λ r. ⌜ AgreesWithJudge (B·Book .meaning (book-of (now (self .entry)))) ruling r ⌝ }
+    {
+        if let Some(point) = ruling.first_from(self.book.size()) {
+            return Err(Fault::new(Layer::Marker, Refusal::StrayMark(point)));
+        }
+        if let Some((a, b)) = first_upward(&self.book, &self.chapters) {
+            return Err(Fault::new(Layer::Marker, Refusal::ReadsUpward(a, b)));
+        }
+        for chapter in 0..16u8 {
+            let verdict = self.judge_part(chapter, ruling);
+            if !verdict.is_stable() {
+                return Ok(ChapterVerdict::new(verdict, Some(chapter)));
+            }
+        }
+        Ok(ChapterVerdict::new(Verdict::Stable, None))
+    }
+
+    // The verdict on the part of the ruling in one chapter.
+    fn judge_part(&self, number: u8, ruling: Ruling) -> Verdict
+        ensures { λ r. ⌜ PartVerdict (B·Book .meaning (book-of (now (self .entry)))) (chapter-of (chapters-of (now (self .entry)))) (has ruling) number r ⌝ }
+    {
+        let part = self.chapters.part_in(number, ruling);
+        let lower = self.chapters.part_below(number, ruling);
+        let chapter = Chapter {
+            book: &self.book,
+            chapters: &self.chapters,
+            number,
+            granted: lower,
+            open: lower,
+        };
+        compare(part, closure(&chapter, part))
     }
 }
 

@@ -1,3 +1,4 @@
+-- The closure is the one that is computed.
 use Rattle.semantics.proofs.Closures.{closure, is-closure, unique, shrinks}
 use Rattle.semantics.proofs.closures_exist.Needs as need
 

@@ -5,4 +5,4 @@ use Rattle.semantics.proofs.Closures.{step}
 use Rattle.marker.proofs.closure.closure.Given as given
 
 abbrev pub Inv-loop-turn : given.InvT-loop-turn
-Inv-loop-turn g l = has (l .x) ≡ iterate (step (g .B·Book .meaning (l .book)) (has (l .y))) (l .-turn)
+Inv-loop-turn g l = has (l .x) ≡ iterate (step (g .O·Operator .meant (l .operator)) (has (l .y))) (l .-turn)

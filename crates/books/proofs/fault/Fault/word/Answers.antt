@@ -1,3 +1,4 @@
+-- The words of the refusals that the search leaves.
 use mathlib.Core.Path.{sym, ap}
 use Rattle.books.specs.Fault.{word}
 use Rattle.books.proofs.fault.Fault.word.Needs as need

@@ -1,3 +1,4 @@
+-- The code asks for the supporters and the strikers as the meaning does.
 use mathlib.Core.Path.{_≡_, sym, _∙_}
 use mathlib.Core.Bool.{Bool, true, false}
 use Rattle.rulings.specs.Rulings.{has}

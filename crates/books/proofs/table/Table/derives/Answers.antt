@@ -1,3 +1,4 @@
+-- The loop stops at the first entry that fires.
 use mathlib.Core.Path.{sym, ap, _∙_}
 use native.Mathlib.Omega.{arith}
 use Rattle.rulings.specs.Rulings.{has}

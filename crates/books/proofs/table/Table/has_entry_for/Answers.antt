@@ -1,3 +1,4 @@
+-- The loop stops at the first entry for the point.
 use mathlib.Core.Path.{sym, ap, _∙_}
 use native.Mathlib.Omega.{arith}
 use borrow.Author.Tests.{eq-eqb, ne-eqb}

@@ -1,3 +1,4 @@
+-- The entry stands in the first free slot.
 use mathlib.Core.Path.{refl}
 use native.Mathlib.Omega.{arith}
 use Rattle.std.proofs.shelf.Lists.{take-more-set}

@@ -1,3 +1,4 @@
+-- The loop stops at the first entry that names the other point.
 use mathlib.Core.Path.{sym, ap, _∙_}
 use native.Mathlib.Omega.{arith}
 use Rattle.books.specs.Entries.{any, looks-at}

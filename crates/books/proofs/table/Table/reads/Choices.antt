@@ -1,3 +1,4 @@
+-- No entry so far names the other point.
 use mathlib.Core.Path.{_≡_}
 use mathlib.Core.Bool.{false}
 use lib.ListN.{take}

@@ -1,3 +1,4 @@
+-- Each turn keeps an entry or drops it.
 use mathlib.Core.Path.{_≡_, ap, _∙_}
 use mathlib.Core.Bool.{not}
 use native.Mathlib.Omega.{arith}

@@ -1,3 +1,4 @@
+-- The filled slots are the entries so far that stay.
 use mathlib.Core.Path.{_≡_}
 use mathlib.Core.Bool.{not}
 use Rattle.std.proofs.shelf.Filters.{Keeping}

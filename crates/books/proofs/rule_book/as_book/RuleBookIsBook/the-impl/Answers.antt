@@ -1,3 +1,4 @@
+-- The laws of a book, for the rule book.
 use Rattle.books.specs.RuleBook.{entries}
 use Rattle.books.proofs.Entries.{entries-lawful}
 use Rattle.books.proofs.Promise.{enters, withdraws}

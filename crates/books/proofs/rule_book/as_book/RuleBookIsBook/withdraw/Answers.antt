@@ -1,3 +1,4 @@
+-- Entries taken out leave the book's own facts standing.
 use mathlib.Core.Path.{ap, sym, _∙_}
 use mathlib.Core.Bool.{not}
 use native.Mathlib.Omega.{arith}

@@ -1,0 +1,4 @@
+-- Lemmas on shifting rows and on order.
+pub mod Pairwise
+pub mod Putting
+pub mod Shifting

@@ -1,0 +1,2 @@
+-- The promise of the ordered insertion.
+pub mod Rows
