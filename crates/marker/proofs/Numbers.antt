@@ -33,3 +33,8 @@ cut-below test r a h = go (decLt a 128)
     go : Dec (a < 128) → a < 128
     go (yes l) = l
     go (no n) = false-is-not-true (sym (has-past r a (omega (arith, n))) ∙ and-both (test a) (has r a) h .1)
+
+-- the points of a chapter, as the table gives them, are the chapter's for every book
+pub points-of-chapter : (c : Chapters) (k n : ℕ) (points : Ruling) → n ≤ 128 → ((a : ℕ) → has points a ≡ ltb a 128 && eqb (chapter-of c a) k) →
+    (a : ℕ) → a < n → has points a ≡ eqb (chapter-of c a) k
+points-of-chapter c k n points few exact a h = exact a ∙ rw (lt-ltb a 128 (omega arith)) refl

@@ -1,8 +1,8 @@
 // The chapter of each point: a plain table, changed only by its own calls.
-ghost use mathlib.Core.Bool.{cond};
+ghost use mathlib.Core.Bool.{cond, _&&_};
 ghost use mathlib.Core.Path.{_≡_};
 ghost use Prim.Native.Nat.{ℕ, _<_};
-ghost use lib.Dec.{eqb};
+ghost use lib.Dec.{eqb, ltb};
 ghost use Rattle.rulings.specs.Rulings.{has};
 ghost use Rattle.semantics.specs.Chapters.{in-chapter, below-chapter};
 ghost use Rattle.marker.specs.Table.{chapter-of, AllInChapter0};
@@ -38,6 +38,19 @@ impl Chapters {
         ensures { λ _. ⌜ ((a : ℕ) → chapter-of (now (self .exit)) a ≡ cond (eqb a point) chapter (chapter-of (now (self .entry)) a)) ⌝ }
     {
         self.numbers[point as usize] = chapter;
+    }
+
+    // The points of a chapter.
+    pub(crate) fn points_of(&self, chapter: u8) -> Ruling
+        ensures { λ r. ⌜ ((a : ℕ) → has r a ≡ ltb a 128 && eqb (chapter-of (now (self .entry)) a) chapter) ⌝ }
+    {
+        let mut points = Ruling::empty();
+        for point in 0..128u8 {
+            if self.of(point) == chapter {
+                points.insert(point);
+            }
+        }
+        points
     }
 
     // The part of a ruling in a chapter.

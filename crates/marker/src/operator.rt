@@ -3,9 +3,7 @@ ghost use denote.Ref.{now};
 ghost use mathlib.Core.Path.{_≡_};
 ghost use Rattle.rulings.specs.Rulings.{has};
 ghost use Rattle.semantics.specs.Meaning.{Meaning};
-ghost use Rattle.semantics.specs.Chapters.{chapter};
-ghost use Rattle.marker.specs.Table.{chapter-of};
-use crate::chapters::Chapters;
+ghost use Rattle.semantics.specs.Chapters.{restricted};
 use books::Book;
 use rulings::Ruling;
 
@@ -38,29 +36,28 @@ pub(crate) impl<'a, B: Book> Operator for Whole<'a, B> as WholeOperator {
     }
 }
 
-// A chapter of a book under the rulings (granted, open) of the lower points.
+// The points of a chapter of a book, under the rulings (granted, open) of the lower points.
 #[derive(Drop)]
 pub(crate) struct Chapter<'a, B> {
     pub(crate) book: &'a B,
-    pub(crate) chapters: &'a Chapters,
-    pub(crate) number: u8,
+    pub(crate) points: Ruling,
     pub(crate) granted: Ruling,
     pub(crate) open: Ruling,
 }
 
 pub(crate) impl<'a, B: Book> Operator for Chapter<'a, B> as ChapterOperator {
-    ghost meant = { λ c. chapter (B·Book .meaning (now (c .book))) (chapter-of (now (c .chapters))) (c .number) (has (c .granted)) (has (c .open)) };
+    ghost meant = { λ c. restricted (B·Book .meaning (now (c .book))) (has (c .points)) (has (c .granted)) (has (c .open)) };
 
     fn size(&self) -> u8 {
         self.book.size()
     }
 
     fn derives(&self, point: u8, x: Ruling, y: Ruling) -> bool {
-        if self.chapters.of(point) != self.number {
+        if !self.points.has(point) {
             return false;
         }
-        let x = self.granted.union(self.chapters.part_in(self.number, x));
-        let y = self.open.union(self.chapters.part_in(self.number, y));
+        let x = self.granted.union(self.points.intersection(x));
+        let y = self.open.union(self.points.intersection(y));
         self.book.derives(point, x, y)
     }
 }

@@ -2,3 +2,4 @@
 pub mod Pairwise
 pub mod Putting
 pub mod Shifting
+pub mod Same

@@ -1,15 +1,25 @@
 -- Rows in order, and a row put among them.
 use mathlib.Core.Path.{_≡_}
 use mathlib.Core.List.{List, [], _∷_, _++_}
+use mathlib.Core.Logic.{_↔_}
 use mathlib.Core.Bool.{Bool, true, false}
 use Prim.Native.Nat.{ℕ, _+_, _<_, _≤_}
 use lib.ListN.{length, getD, take, drop}
-use Rattle.std.specs.shelf.Lists.{All}
+use Rattle.std.specs.shelf.Lists.{All, Has}
 
 module _ {A : Type 0} (before : A → A → Type 0) where
   -- no row stands behind one that it comes before
   abbrev pub InOrder : List A → Type 0
   InOrder xs = (i j : ℕ) (d : A) → i < j → j < length xs → before (getD xs j d) (getD xs i d) → ⊥
+
+  -- each row comes before all later ones
+  abbrev pub StrictlyInOrder : List A → Type 0
+  StrictlyInOrder xs = (i j : ℕ) (d : A) → i < j → j < length xs → before (getD xs i d) (getD xs j d)
+
+  -- the same rows, strictly in order, are the same list
+  abbrev pub Same-rows-same-list : Type 0
+  Same-rows-same-list =
+      (xs ys : List A) → StrictlyInOrder xs → StrictlyInOrder ys → ((r : A) → Has xs r ↔ Has ys r) → xs ≡ ys
 
   -- ys is xs with the row put in: it goes ahead of the rows at the end that it comes before, and behind all others
   pub record PutIn (row : A) (xs ys : List A) : Type 0 where

@@ -3,7 +3,7 @@ ghost use mathlib.Core.Bool.{true};
 ghost use mathlib.Core.Logic.{_↔_};
 ghost use mathlib.Core.Path.{_≡_};
 ghost use Rattle.rulings.specs.Order.{Precedes, StrictTotal};
-ghost use Rattle.rows.specs.Rows.{Inserted};
+ghost use Rattle.rows.specs.Rows.{Inserted, Same-rows-same-list};
 use rulings::Ruling;
 
 // A row, with its order.
@@ -42,3 +42,8 @@ pub fn insert_in_order<R: Row>(rows: &mut [R], count: usize, row: R) -> bool
     rows[place] = row;
     true
 }
+
+// A theorem: the same rows, strictly in order, are the same list. So a listing is settled by what it lists.
+pub fn rows_in_order_are_one<R: Row>()
+    ensures { λ _. ⌜ Same-rows-same-list (R·Row .before) ⌝ }
+{}

@@ -5,3 +5,4 @@ pub mod Closures
 pub mod Splitting
 pub mod Alternating
 pub mod SplitReading
+pub mod Restricting

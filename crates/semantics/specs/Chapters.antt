@@ -24,16 +24,20 @@ Fit m ch = (a b : ℕ) → m .reads a b ≡ true → ch b ≤ ch a
 abbrev pub Sixteen : (ℕ → ℕ) → Type 0
 Sixteen ch = (a : ℕ) → ch a < 16
 
--- Chapter k of a book under the rulings U and V of the lower points, itself the meaning of a book:
--- its points derive under (x, y) as in the book under (U and x's part in the chapter, V and y's part there)
+-- A book restricted to the points of D, under the rulings U and V of other points, itself the meaning of a book:
+-- the points of D derive under (x, y) as in the book under (U and x's part in D, V and y's part there)
 -- and read as in the book; other points do neither.
-abbrev pub chapter : Meaning → (ℕ → ℕ) → ℕ → Points → Points → Meaning
-chapter m ch k U V =
+abbrev pub restricted : Meaning → Points → Points → Points → Meaning
+restricted m D U V =
     record {
       size = m .size;
-      derives = λ x y a. eqb (ch a) k && m .derives (union U (in-chapter ch k x)) (union V (in-chapter ch k y)) a;
-      reads = λ a b. eqb (ch a) k && m .reads a b;
+      derives = λ x y a. D a && m .derives (union U (λ b. D b && x b)) (union V (λ b. D b && y b)) a;
+      reads = λ a b. D a && m .reads a b;
     }
+
+-- chapter k of a book under the rulings U and V of the lower points
+abbrev pub chapter : Meaning → (ℕ → ℕ) → ℕ → Points → Points → Meaning
+chapter m ch k U V = restricted m (λ a. eqb (ch a) k) U V
 
 -- the part of Y in chapter k is stable there, under the part of Y in the lower chapters
 abbrev pub PartStable : Meaning → (ℕ → ℕ) → Points → ℕ → Type 0

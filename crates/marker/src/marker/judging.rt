@@ -68,8 +68,7 @@ impl<B: Book> Marker<B> {
         let lower = self.chapters.part_below(number, ruling);
         let chapter = Chapter {
             book: &self.book,
-            chapters: &self.chapters,
-            number,
+            points: self.chapters.points_of(number),
             granted: lower,
             open: lower,
         };

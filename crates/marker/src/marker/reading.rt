@@ -50,17 +50,16 @@ impl<B: Book> Marker<B> {
     fn read_chapter(&self, number: u8, below: Reading) -> Reading
         ensures { λ r. ⌜ AddsChapter (B·Book .meaning (book-of (now (self .entry)))) (chapter-of (chapters-of (now (self .entry)))) number below r ⌝ }
     {
+        let points = self.chapters.points_of(number);
         let for_sure = Chapter {
             book: &self.book,
-            chapters: &self.chapters,
-            number,
+            points,
             granted: below.sure,
             open: below.possible,
         };
         let for_possible = Chapter {
             book: &self.book,
-            chapters: &self.chapters,
-            number,
+            points,
             granted: below.possible,
             open: below.sure,
         };

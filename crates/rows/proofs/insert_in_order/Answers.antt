@@ -9,7 +9,7 @@ use Rattle.rows.proofs.insert_in_order.Needs as need
 use Rattle.rows.proofs.insert_in_order.Needs.{then-loop-place-test·else-comes-before, else-loop-place-test}
 
 pub loop-place-holds : need.loop-place-holds
-loop-place-holds g c = shift-start (g .R·Row .before) (c .args .row) (c .args .rows .now) (c .args .count) (c .if-count-rows .left)
+loop-place-holds g c = shift-start (g .R·Row .before) (c .args .row) (c .args .rows .now) (c .args .count) (omega arith)
 
 pub loop-place-again : need.loop-place-again
 loop-place-again g c =

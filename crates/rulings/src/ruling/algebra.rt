@@ -1,4 +1,4 @@
-// Union and difference of rulings, containment and disjointness.
+// Union, intersection and difference of rulings, containment and disjointness.
 ghost use mathlib.Core.Bool.{true, not, _&&_, _||_};
 ghost use mathlib.Core.Logic.{_↔_};
 ghost use mathlib.Core.Path.{_≡_};
@@ -15,6 +15,17 @@ impl Ruling {
         let mut bytes = self.bytes;
         for i in 0..16 {
             bytes[i] |= other.bytes[i];
+        }
+        Ruling { bytes }
+    }
+
+    // The points of both.
+    pub fn intersection(self, other: Ruling) -> Ruling
+        ensures { λ r. ⌜ ((a : ℕ) → has r a ≡ has self a && has other a) ⌝ }
+    {
+        let mut bytes = self.bytes;
+        for i in 0..16 {
+            bytes[i] &= other.bytes[i];
         }
         Ruling { bytes }
     }
