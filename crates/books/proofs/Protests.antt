@@ -17,7 +17,7 @@ use Rattle.books.specs.declared.protest_book.ProtestBook.{ProtestBook}
 use Rattle.books.specs.Promise.{Outcome, SameBut, Entering, Withdrawing}
 use Rattle.books.specs.Entries.{avoids}
 use Rattle.books.specs.Program.{Rule, Derives}
-use Rattle.books.specs.ProtestBook.{lodged, protesters, protest-meaning, protest-program, ProtestDenied, ProtestEntered, UnlodgeDenied, ProtestWithdrawn}
+use Rattle.books.specs.ProtestBook.{lodged, protesters, protest-meaning, protest-program, ProtestDenied, ProtestEntered, ProtestWithdrawDenied, ProtestWithdrawn}
 use Rattle.books.proofs.Tests.{contrapositive, or-nothing, and-not-nothing}
 use Rattle.books.proofs.Entries.{avoids-use, avoids-of}
 use Rattle.books.proofs.Faults.{EnteringFault, WithdrawingFault, entering-accepted, entering-denied, withdrawing-accepted, withdrawing-denied}
@@ -115,6 +115,6 @@ protest-withdraws b a (Ok tt) b' (inside, some, size, lodging, protests) =
 protest-withdraws b a (Err f) b' (why, same) =
     withdrawing-denied (protest-meaning b) a (protest-meaning b') f (fault why) (ap protest-meaning same)
   where
-    fault : UnlodgeDenied b a f → WithdrawingFault (b .size) a f
+    fault : ProtestWithdrawDenied b a f → WithdrawingFault (b .size) a f
     fault (inl h) = inl h
     fault (inr h) = inr ((NothingEntered a, h .0, lit≤ tt, lit≤ tt), h .1)

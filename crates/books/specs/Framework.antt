@@ -1,4 +1,4 @@
--- The published definitions for argumentation frameworks, over arguments and attacks alone.
+-- The published definitions for argumentation frameworks, over arguments and attacks alone, and the framework of a protest book.
 use mathlib.Core.Path.{_≡_}
 use mathlib.Core.Logic.{_↔_}
 use mathlib.Core.Bool.{Bool, true, false, _&&_}

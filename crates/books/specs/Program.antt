@@ -1,7 +1,7 @@
--- The published definitions for ground normal programs, with no word of the marker:
--- reduct, least model, stable model, and the partial evaluation of a chapter.
+-- The published definitions for ground normal programs, over rules alone: reduct, least model, stable model,
+-- the least precise fixpoint of the stable operator on pairs, and the partial evaluation of a chapter.
+-- The entries of a rule book are a program.
 use mathlib.Core.Path.{_≡_}
-use mathlib.Core.Logic.{_↔_, _⊎_}
 use mathlib.Core.List.{List}
 use mathlib.Core.Bool.{true}
 use Prim.Native.Nat.{ℕ}

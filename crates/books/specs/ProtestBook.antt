@@ -18,7 +18,7 @@ use Rattle.books.specs.Fault.{fault-of}
 use Rattle.books.specs.Promise.{Outcome, BadSizeFor, stray}
 use Rattle.books.specs.Entries.{avoids}
 use Rattle.books.specs.Protesters.{row}
-use Rattle.books.specs.Program.{Program, Rule}
+use Rattle.books.specs.Program.{Program}
 
 -- the points that are lodged
 abbrev pub lodged : ProtestBook → Points
@@ -68,8 +68,8 @@ ProtestEntered b a p q (Ok _) b' =
 ProtestEntered b a p q (Err f) b' = ProtestDenied b a p q f × (b' ≡ b)
 
 -- why a withdrawing is denied, the smaller number first
-abbrev pub UnlodgeDenied : ProtestBook → ℕ → Fault → Type 0
-UnlodgeDenied b a f =
+abbrev pub ProtestWithdrawDenied : ProtestBook → ℕ → Fault → Type 0
+ProtestWithdrawDenied b a f =
     ((f ≡ fault-of Book (NoSuchPoint a)) × (b .size ≤ a))
     ⊎ ((f ≡ fault-of Book (NothingEntered a)) × (a < b .size) × (lodged b a ≡ false))
 
@@ -79,4 +79,4 @@ ProtestWithdrawn b a (Ok _) b' =
     (a < b .size) × (lodged b a ≡ true) × (b' .size ≡ b .size)
     × ((c : ℕ) → lodged b' c ≡ lodged b c && not (eqb c a))
     × ((c d : ℕ) → protesters b' c d ≡ protesters b c d && not (eqb c a))
-ProtestWithdrawn b a (Err f) b' = UnlodgeDenied b a f × (b' ≡ b)
+ProtestWithdrawn b a (Err f) b' = ProtestWithdrawDenied b a f × (b' ≡ b)

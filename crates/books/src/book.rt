@@ -9,9 +9,9 @@ use crate::fault::Fault;
 use rulings::Ruling;
 
 // A book (a ground normal program, seen only by its operator).
-// `meaning` is its answers to the three questions. Each sort of book says in full, by the relations `opened`,
-// `entered` and `withdrawn`, what a change answers and which book stands after it; the laws draw from them
-// what every book promises.
+// `meaning` is its answers to the three questions. Each sort of book says by the relations `opened`, `entered`
+// and `withdrawn` what a change answers and which book stands after it; the laws draw from them what every book
+// promises.
 pub trait Book {
     ghost meaning: { Self → Meaning };
 
@@ -41,7 +41,7 @@ pub trait Book {
     fn reads(&self, point: u8, other: u8) -> bool
         ensures { λ r. ⌜ r ≡ meaning (now (self .entry)) .reads point other ⌝ };
 
-    // Sets the size, and empties the book.
+    // Opens the book with a size.
     fn open(&mut self, size: u8) -> Result<(), Fault>
         ensures { λ r. ⌜ opened (now (self .entry)) size r (now (self .exit)) ⌝ };
 

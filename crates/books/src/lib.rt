@@ -26,5 +26,5 @@ pub use protest_book::published::sure_points_are_grounded;
 pub use rule_book::RuleBook;
 pub use rule_book::as_book::RuleBookIsBook;
 pub use rule_book::published::rule_chapters_are_evaluated;
-pub use rule_book::published::rule_readings_are_well_founded;
 pub use rule_book::published::stable_rulings_are_stable_models;
+pub use rule_book::published::well_founded_models_are_least_precise;

@@ -14,9 +14,9 @@ use Rattle.rows.proofs.Putting.{put-length, put-has-row, put-keeps, put-adds-on
 use Rattle.semantics.specs.Meaning.{Meaning, Lawful}
 use Rattle.semantics.proofs.Tests.{false-is-not-true, and-both}
 use Rattle.marker.specs.declared.audit.UpwardReading.{UpwardReading}
-use Rattle.marker.specs.Audit.{AuditedBefore, AllUpward, reading-row}
+use Rattle.marker.specs.Audit.{AuditedBefore, AllUpward, reading-row, MoreUpward}
 use Rattle.marker.specs.Fitting.{upward}
-use Rattle.marker.specs.Gathering.{PairBefore, Gathered, GatheredIn, GatheredOnto, MoreUpward}
+use Rattle.marker.specs.Gathering.{PairBefore, Gathered, GatheredIn, GatheredOnto}
 use Rattle.marker.proofs.AuditOrder.{audit-order}
 
 -- a pair before (i, j + 1) is before (i, j), or it is (i, j)

@@ -8,6 +8,7 @@ use lib.ListN.{length, getD, take, drop, replicate}
 use Rattle.std.specs.declared.result.Result.{Result}
 use Rattle.std.specs.declared.result.Result.the-variants.{Ok, Err}
 use Rattle.std.specs.shelf.Lists.{Has}
+use Rattle.rows.specs.Rows.{StrictlyInOrder}
 use Rattle.semantics.specs.Meaning.{Meaning}
 use Rattle.books.specs.declared.fault.Refusal.the-variants.{ListTooShort}
 use Rattle.books.specs.declared.fault.Layer.the-variants as layer
@@ -32,7 +33,11 @@ zero-row = record { drop = 0; reader = 0; read = 0 }
 pub record AllUpward (m : Meaning) (ch : ℕ → ℕ) (rows : List UpwardReading) : Type 0 where
   pub upward-only : (r : UpwardReading) → Has rows r → (a : ℕ) × (b : ℕ) × (upward m ch a b ≡ true) × (r ≡ reading-row ch a b)
   pub each-there : (a b : ℕ) → upward m ch a b ≡ true → Has rows (reading-row ch a b)
-  pub in-order : (i j : ℕ) (d : UpwardReading) → i < j → j < length rows → AuditedBefore (getD rows i d) (getD rows j d)
+  pub in-order : StrictlyInOrder AuditedBefore rows
+
+-- there are more than n upward readings
+abbrev pub MoreUpward : Meaning → (ℕ → ℕ) → ℕ → Type 0
+MoreUpward m ch n = (rows : List UpwardReading) × AllUpward m ch rows × (n < length rows)
 
 -- Auditing into rows that the caller lends: all upward readings and their number, later rows as found;
 -- list too short exactly if there are more readings than rows, and then every row is zero.
@@ -41,5 +46,5 @@ Audited m ch found (Ok n) left =
     (n ≤ length found) × AllUpward m ch (take n left) × (drop n left ≡ drop n found)
 Audited m ch found (Err f) left =
     (f ≡ fault-of layer.Marker ListTooShort)
-    × ((rows : List UpwardReading) × AllUpward m ch rows × (length found < length rows))
+    × MoreUpward m ch (length found)
     × (left ≡ replicate (length found) zero-row)

@@ -14,14 +14,14 @@ use Rattle.rulings.specs.declared.ruling.Ruling.{Ruling}
 use Rattle.semantics.specs.Meaning.{Meaning}
 use Rattle.semantics.specs.Closure.{IsClosure, Stable as StableIn}
 use Rattle.semantics.specs.Chapters.{in-chapter, below-chapter, Fit, chapter, PartStable}
-use Rattle.books.specs.declared.fault.Refusal.the-variants.{StrayMark, ReadsUpward}
+use Rattle.books.specs.declared.fault.Refusal.the-variants.{StrayMark}
 use Rattle.books.specs.declared.fault.Layer.the-variants as layer
 use Rattle.books.specs.declared.fault.Fault.{Fault}
 use Rattle.books.specs.Fault.{fault-of}
 use Rattle.books.specs.Promise.{stray}
 use Rattle.marker.specs.declared.verdict.Verdict.{Verdict}
 use Rattle.marker.specs.declared.verdict.ChapterVerdict.{ChapterVerdict}
-use Rattle.marker.specs.Fitting.{FirstUpward}
+use Rattle.marker.specs.Fitting.{UpwardDenied}
 use Rattle.marker.specs.declared.verdict.Verdict.the-variants.{Stable, Unfounded, Missing}
 
 -- the number of a verdict
@@ -56,11 +56,23 @@ Compares y X Stable = y ≡ X
 Compares y X (Unfounded a) = Lowest (λ b. xor (y b) (X b)) (Some a) × (y a ≡ true)
 Compares y X (Missing a) = Lowest (λ b. xor (y b) (X b)) (Some a) × (X a ≡ true)
 
+-- every point of the ruling is a point of the book
+abbrev pub NoStray : Meaning → Ruling → Type 0
+NoStray m r = Lowest (stray (m .size) (has r)) None
+
+-- denied by the marker for a stray mark, the lowest point that the book does not have
+abbrev pub StrayDenied : Meaning → Ruling → Fault → Type 0
+StrayDenied m r f = (s : ℕ) × (f ≡ fault-of layer.Marker (StrayMark s)) × Lowest (stray (m .size) (has r)) (Some s)
+
 -- Judging a ruling by a book: denied for a stray mark, the lowest point that the book does not have;
 -- else the verdict on the ruling beside its closure.
 abbrev pub Judged : Meaning → Ruling → Result Verdict Fault → Type 0
-Judged m r (Err f) = (s : ℕ) × (f ≡ fault-of layer.Marker (StrayMark s)) × Lowest (stray (m .size) (has r)) (Some s)
-Judged m r (Ok v) = Lowest (stray (m .size) (has r)) None × ((X : Points) × IsClosure m (has r) X × Compares (has r) X v)
+Judged m r (Err f) = StrayDenied m r f
+Judged m r (Ok v) = NoStray m r × ((X : Points) × IsClosure m (has r) X × Compares (has r) X v)
+
+-- judging whole says stable exactly if there is no stray point and the ruling is stable in the book read whole
+abbrev pub SaysStable : Meaning → Ruling → Result Verdict Fault → Type 0
+SaysStable m r j = (j ≡ Ok Stable) ↔ (NoStray m r × StableIn m (has r))
 
 -- the verdict on the part of y in chapter k, under the part of y in the lower chapters
 abbrev pub PartVerdict : Meaning → (ℕ → ℕ) → Points → ℕ → Verdict → Type 0
@@ -76,10 +88,9 @@ ByChapter m ch y v (Some k) =
 -- Judging a ruling by chapters: denied for a stray mark, then for chapters that do not fit.
 abbrev pub JudgedByChapter : Meaning → (ℕ → ℕ) → Ruling → Result ChapterVerdict Fault → Type 0
 JudgedByChapter m ch r (Err f) =
-    ((s : ℕ) × (f ≡ fault-of layer.Marker (StrayMark s)) × Lowest (stray (m .size) (has r)) (Some s))
-    ⊎ (Lowest (stray (m .size) (has r)) None × ((a : ℕ) × (b : ℕ) × (f ≡ fault-of layer.Marker (ReadsUpward a b)) × FirstUpward m ch (Some (a, b))))
+    StrayDenied m r f ⊎ (NoStray m r × UpwardDenied m ch f)
 JudgedByChapter m ch r (Ok v) =
-    Lowest (stray (m .size) (has r)) None × Fit m ch × ByChapter m ch (has r) (v .verdict) (v .chapter)
+    NoStray m r × Fit m ch × ByChapter m ch (has r) (v .verdict) (v .chapter)
 
 -- where judging by chapters is not denied, it says stable exactly of the rulings that are stable in the book read whole
 abbrev pub AgreesWithWhole : Meaning → Ruling → Result ChapterVerdict Fault → Type 0

@@ -57,13 +57,7 @@ impl Chapters {
     pub(crate) fn part_in(&self, chapter: u8, ruling: Ruling) -> Ruling
         ensures { λ r. ⌜ has r ≡ in-chapter (chapter-of (now (self .entry))) chapter (has ruling) ⌝ }
     {
-        let mut part = Ruling::empty();
-        for point in 0..128u8 {
-            if self.has_in(chapter, ruling, point) {
-                part.insert(point);
-            }
-        }
-        part
+        self.points_of(chapter).intersection(ruling)
     }
 
     // The part of a ruling in the chapters lower than one.
@@ -77,12 +71,6 @@ impl Chapters {
             }
         }
         part
-    }
-
-    fn has_in(&self, chapter: u8, ruling: Ruling, point: u8) -> bool
-        ensures { λ r. ⌜ r ≡ in-chapter (chapter-of (now (self .entry))) chapter (has ruling) point ⌝ }
-    {
-        self.of(point) == chapter && ruling.has(point)
     }
 
     fn has_below(&self, chapter: u8, ruling: Ruling, point: u8) -> bool

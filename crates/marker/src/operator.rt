@@ -36,7 +36,7 @@ pub(crate) impl<'a, B: Book> Operator for Whole<'a, B> as WholeOperator {
     }
 }
 
-// The points of a chapter of a book, under the rulings (granted, open) of the lower points.
+// A chapter of a book, by its points. Lower points are looked up in `granted` for supporters, and in `open` for strikers.
 #[derive(Drop)]
 pub(crate) struct Chapter<'a, B> {
     pub(crate) book: &'a B,

@@ -64,7 +64,7 @@ pub struct ChapterVerdict {
 }
 
 impl ChapterVerdict {
-    pub fn new(verdict: Verdict, chapter: Option<u8>) -> ChapterVerdict
+    pub(crate) fn new(verdict: Verdict, chapter: Option<u8>) -> ChapterVerdict
         ensures verdict { λ r. ⌜ r .verdict ≡ verdict ⌝ }
         ensures chapter { λ r. ⌜ r .chapter ≡ chapter ⌝ }
     {

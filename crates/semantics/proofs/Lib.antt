@@ -6,3 +6,12 @@ pub mod Splitting
 pub mod Alternating
 pub mod SplitReading
 pub mod Restricting
+pub mod Subsets
+pub mod Joined
+pub mod RulingOf
+pub mod Fillings
+pub mod Ways
+pub mod Levels
+pub mod Walk
+pub mod StableTest
+pub mod WalkSteps

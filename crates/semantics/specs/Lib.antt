@@ -3,3 +3,5 @@ pub mod Meaning
 pub mod Closure
 pub mod Chapters
 pub mod WellFounded
+pub mod Listing
+pub mod Walk

@@ -1,16 +1,8 @@
 // Judging a ruling by the whole book, and by its chapters.
-ghost use mathlib.Core.Logic.{_↔_};
-ghost use mathlib.Core.Path.{_≡_};
-ghost use Rattle.std.specs.declared.option.Option.the-variants.{None};
-ghost use Rattle.std.specs.declared.result.Result.the-variants.{Ok};
-ghost use Rattle.rulings.specs.Points.{Lowest};
 ghost use Rattle.rulings.specs.Rulings.{has};
-ghost use Rattle.semantics.specs.Closure.{Stable as StableIn};
-ghost use Rattle.books.specs.Promise.{stray};
-ghost use Rattle.marker.specs.Judging.{Judged, Compares, PartVerdict, JudgedByChapter, AgreesWithWhole, AgreesWithJudge};
+ghost use Rattle.marker.specs.Judging.{Judged, SaysStable, Compares, PartVerdict, JudgedByChapter, AgreesWithWhole, AgreesWithJudge};
 ghost use Rattle.marker.specs.State.{book-of, chapters-of};
 ghost use Rattle.marker.specs.Table.{chapter-of};
-ghost use Rattle.marker.specs.declared.verdict.Verdict.the-variants as verdict;
 use super::Marker;
 use crate::closure::closure;
 use crate::fitting::first_upward;
@@ -30,7 +22,7 @@ impl<B: Book> Marker<B> {
     // Compares the ruling with its closure in the book read whole.
     pub fn judge(&self, ruling: Ruling) -> Result<Verdict, Fault>
         ensures judged { λ r. ⌜ Judged (B·Book .meaning (book-of (now (self .entry)))) ruling r ⌝ }
-        ensures stable { λ r. ⌜ ((r ≡ Ok verdict.Stable) ↔ (Lowest (stray (B·Book .meaning (book-of (now (self .entry))) .size) (has ruling)) None × StableIn (B·Book .meaning (book-of (now (self .entry)))) (has ruling))) ⌝ }
+        ensures stable { λ r. ⌜ SaysStable (B·Book .meaning (book-of (now (self .entry)))) ruling r ⌝ }
     {
         if let Some(point) = ruling.first_from(self.book.size()) {
             return Err(Fault::new(Layer::Marker, Refusal::StrayMark(point)));

@@ -1,13 +1,6 @@
--- The well-founded model is the least pair over the book twice, and it splits.
-use Rattle.semantics.proofs.Alternating.{sure-points, possible-points, least-pair-exists, least-pair-unique, sure-is-possible}
+-- The well-founded model splits.
 use Rattle.semantics.proofs.SplitReading.{well-founded-splits}
 use Rattle.semantics.proofs.readings_split.Needs as need
 
 pub returns : need.returns
-returns c =
-    record {
-      exists = λ m l. (sure-points m m, possible-points m m, least-pair-exists m m l l);
-      unique = λ m. least-pair-unique m m;
-      sure = sure-is-possible;
-      splits = well-founded-splits;
-    }
+returns c = well-founded-splits
