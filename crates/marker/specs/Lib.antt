@@ -1,4 +1,4 @@
--- What a marker holds, what its calls do to it, how it judges and reads, whole and by chapters, and what it audits.
+-- What a marker holds, what its calls do to it, how it judges and reads, whole and by chapters, what it audits, and what it lists.
 pub mod Table
 pub mod State
 pub mod Fitting
@@ -6,3 +6,5 @@ pub mod Judging
 pub mod Reading
 pub mod Audit
 pub mod Gathering
+pub mod Listing
+pub mod Walk

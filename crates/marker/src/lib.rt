@@ -1,8 +1,11 @@
 // The marker: a book of any sort with a chapter for each point, and its calls.
 mod audit;
+mod candidates;
 mod chapters;
 mod closure;
 mod fitting;
+mod levels;
+mod listing;
 mod marker;
 mod operator;
 mod reading;

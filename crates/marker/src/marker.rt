@@ -6,6 +6,7 @@ use crate::chapters::Chapters;
 mod auditing;
 mod changes;
 mod judging;
+mod listing;
 mod reading;
 
 // Nothing hands out the book: it is changed only through the marker's calls.
