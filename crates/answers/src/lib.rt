@@ -1,4 +1,6 @@
 // What calls answer: why they are denied, verdicts, the rows of an audit, and what a listing counts.
+#![tactic(auto)]
+
 mod audit;
 mod fault;
 mod listing;

@@ -1,4 +1,6 @@
 // Books: what a marker sees of them, the rule book and the protest book.
+#![tactic(auto)]
+
 mod book;
 mod protest_book;
 mod protesters;

@@ -1,4 +1,6 @@
 // A listing at the ceiling of effort, over a full rule book: what the benchmark times.
+#![tactic(auto)]
+
 use answers::{Fault, Listing};
 use books::{Book, RuleBook};
 use marker::Marker;

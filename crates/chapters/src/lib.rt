@@ -1,4 +1,6 @@
 // Chapters: the table of them, whether they fit a book, and closures and readings in one chapter or in the whole book.
+#![tactic(auto)]
+
 mod candidates;
 mod chapters;
 mod closures;

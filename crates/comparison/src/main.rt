@@ -1,4 +1,6 @@
 // Listings: every stable ruling of the example book, and two books compared by what they list.
+#![tactic(auto)]
+
 mod comparing;
 mod listing;
 mod say;

@@ -1,4 +1,6 @@
 // Tests of the calls on worked examples and at their limits.
+#![tactic(auto)]
+
 #[cfg(test)]
 mod chapters;
 #[cfg(test)]

@@ -1,5 +1,7 @@
 // A record file in words: a line for each record on standard input, with its reply.
 // For a rule book; for a protest book with the argument `protests`.
+#![tactic(auto)]
+
 mod say;
 
 use answers::{Fault, Layer, Refusal};

@@ -1,4 +1,6 @@
 // Records in, replies out: the entry reader.
+#![tactic(auto)]
+
 mod bytes;
 mod front;
 mod kind;

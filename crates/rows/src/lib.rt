@@ -1,4 +1,6 @@
 // Rows kept in their order, in slices that the caller lends.
+#![tactic(auto)]
+
 ghost use Rattle.std.specs.Prelude.{◌≡◌, true, ◌↔◌};
 ghost use Rattle.rulings.specs.Order.{Precedes, StrictTotal};
 ghost use Rattle.rows.specs.Rows.{Inserted, SameRowsSameList};

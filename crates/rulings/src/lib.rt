@@ -1,4 +1,6 @@
 // Rulings: sets of at most 128 points, sixteen bytes each.
+#![tactic(auto)]
+
 mod ruling;
 
 pub use ruling::Ruling;

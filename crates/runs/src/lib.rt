@@ -1,4 +1,6 @@
 // Runs of calls: a list of calls carried out on a marker, and the law of any two runs.
+#![tactic(auto)]
+
 mod answer;
 mod call;
 mod comparing;

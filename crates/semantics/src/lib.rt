@@ -1,4 +1,6 @@
 // The theory of books: each function does nothing, and its contract is a theorem.
+#![tactic(auto)]
+
 ghost use Rattle.semantics.specs.Chapters.{ChapterLawful, ClosureSplits, StableSplits};
 ghost use Rattle.semantics.specs.Closure.{ClosureExists, ClosureUnique, ClosureShrinks};
 ghost use Rattle.semantics.specs.Walk.{EffortUnique, SubsetsNumbered, TestExists, WalkCompletes, WalkEffort};

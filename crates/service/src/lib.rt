@@ -1,4 +1,6 @@
 // What a program does that serves records: standard input in, standard output out.
+#![tactic(auto)]
+
 use books::Book;
 use marker::Marker;
 use reader::serve;

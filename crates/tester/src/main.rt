@@ -1,5 +1,7 @@
 // The tester: every call of a marker beside the definitions, over families of small books. It shares no code with
 // the marker's closures: it decides what is closed, stable, well-founded, fitting and listed by trying every set.
+#![tactic(auto)]
+
 mod asking;
 mod comparing;
 mod definitions;

@@ -1,4 +1,6 @@
 // A tour of the marker: works small books and says in words what came of each call.
+#![tactic(auto)]
+
 mod chapters;
 mod protests;
 mod rules;
