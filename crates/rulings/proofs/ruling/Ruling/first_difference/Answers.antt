@@ -12,7 +12,7 @@ returns-in-Some c =
 
 pub loop-i-preserved : goal.loop-i-preserved
 loop-i-preserved c a h =
-    agree_below c.args.self c.args.other c.loop-i.i c.loop-i.invariant 8 (omega arith) (λ k _. c.in-default.ensures k) a (omega arith)
+    agree_below c.args.self c.args.other c.loop-i.i c.loop-i.invariant 8 (omega arith) (λ k _. c.in_default.ensures k) a (omega arith)
 
 pub returns : goal.returns
 unfolding xor

@@ -17,8 +17,8 @@ returns-then-is-full c =
       refl,
     )
 
-pub invariant-of-self : goal.invariant-of-self
-invariant-of-self c =
+pub invariant_of-self : goal.invariant_of-self
+invariant_of-self c =
     let b = c.args.self.now in
     let clear = none_stray b.size c.args.p c.args.q c.union.result c.union.ensures c.in-default.ensures in (
       b.least,

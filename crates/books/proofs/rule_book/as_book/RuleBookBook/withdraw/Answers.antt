@@ -5,8 +5,8 @@ use Rattle.books.specs.RuleBook.{entries}
 use Rattle.books.specs.Any.{any_kept_part}
 use Rattle.books.proofs.rule_book.as_book.RuleBookBook.withdraw.Goals as goal
 
-pub invariant-of-self : goal.invariant-of-self
-invariant-of-self c =
+pub invariant_of-self : goal.invariant_of-self
+invariant_of-self c =
     let b = c.args.self.now in
     let after = c.remove.ensures.after in (
       b.least,
