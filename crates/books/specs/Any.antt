@@ -1,7 +1,7 @@
 -- A test that holds of some element of a list.
 use Rattle.std.specs.Prelude.{◌≡◌, ℕ, zero, suc, ◌+◌, ◌<◌, ◌≤◌, Bool, true, false, cond, ◌||◌, ◌⊎◌, List, [], ◌∷◌, ◌++◌, length, take, filter, slice_index_or, refl}
 use Rattle.std.proofs.Common.{sym, ap, subst, ◌∙◌, inl, inr, suc-le-suc, arith}
-use Rattle.std.specs.List.{ContainsAt as Has}
+use Rattle.std.specs.List.{ContainsAt}
 use Rattle.std.proofs.lemmas.List.{take_more, take_all}
 use Rattle.semantics.proofs.Tests.{false_is_not_true, or_split, or_left, or_right}
 use Rattle.books.specs.Entries.{any}
@@ -32,15 +32,15 @@ module _ {X : Type 0} (test : X → Bool) where
   any_all_false xs i l h = sym (ap (any test) (take_all i xs l)) ∙ h
 
   -- a witness
-  pub any_has : (xs : List X) → any test xs ≡ true → (x : X) × Has xs x × (test x ≡ true)
+  pub any_has : (xs : List X) → any test xs ≡ true → (x : X) × ContainsAt xs x × (test x ≡ true)
   any_has [] h = false_is_not_true h
   any_has (y ∷ ys) h = go (or_split (test y) (any test ys) h) (any_has ys)
     where
-      go : (test y ≡ true) ⊎ (any test ys ≡ true) → (any test ys ≡ true → (x : X) × Has ys x × (test x ≡ true)) → (x : X) × Has (y ∷ ys) x × (test x ≡ true)
+      go : (test y ≡ true) ⊎ (any test ys ≡ true) → (any test ys ≡ true → (x : X) × ContainsAt ys x × (test x ≡ true)) → (x : X) × ContainsAt (y ∷ ys) x × (test x ≡ true)
       go (inl t) ih = (y, (0, omega arith, λ d. refl), t)
       go (inr t) ih = let w = ih t in (w.0, (suc w.1.0, suc-le-suc w.1.1, w.1.2), w.2)
 
-  pub has_any : (xs : List X) (x : X) → Has xs x → test x ≡ true → any test xs ≡ true
+  pub has_any : (xs : List X) (x : X) → ContainsAt xs x → test x ≡ true → any test xs ≡ true
   has_any xs x h t = any_at xs h.0 x h.1 (sym (h.2 x)) t
 
 -- a test that implies another

@@ -1,6 +1,6 @@
 -- The rulings that a walk has found, in row order, in the rows lent.
 use Rattle.std.proofs.Common.{◌≡◌, ℕ, ◌+◌, ◌<◌, ◌≤◌, Bool, true, false, ◌⊎◌, List, [], ◌∷◌, ◌++◌, length, take, drop, sym, refl, ap, ◌∙◌, subst, inl, inr, arith}
-use Rattle.std.specs.List.{ContainsAt as Has}
+use Rattle.std.specs.List.{ContainsAt}
 use Rattle.std.proofs.ByRecursion.{all-has, has_append_left, has_append_right}
 use Rattle.rulings.specs.Points.{Points}
 use Rattle.rulings.specs.Rulings.{has}
@@ -16,22 +16,22 @@ use Rattle.semantics.proofs.RulingOf.{ruling_of, ruling_of_same}
 -- the rows are the sets of a list as rulings, in row order
 pub record InRows (xs : List Points) (rows : List Ruling) : Type 0 where
   pub strict : ByPlaces Precedes rows
-  pub only : (r : Ruling) → Has rows r → Has xs (has r)
-  pub each : (x : Points) → Has xs x → (r : Ruling) × Has rows r × (has r ≡ x)
+  pub only : (r : Ruling) → ContainsAt rows r → ContainsAt xs (has r)
+  pub each : (x : Points) → ContainsAt xs x → (r : Ruling) × ContainsAt rows r × (has r ≡ x)
 
 pub in_rows_none : InRows [] []
 in_rows_none = record { strict = λ i j d h k. absurd (omega arith); only = λ r h. absurd (has_none r h); each = λ x h. absurd (has_none x h) }
 
 -- one more set, and its ruling put in
 in_rows_more : (xs zs : List Points) (x : Points) (row : Ruling) (rows ys : List Ruling) → has row ≡ x →
-    ((y : Points) → Has zs y → Has xs y ⊎ (x ≡ y)) → ((y : Points) → Has xs y → Has zs y) → Has zs x →
-    (Has xs x → ⊥) → PutIn Precedes row rows ys → InRows xs rows → InRows zs ys
+    ((y : Points) → ContainsAt zs y → ContainsAt xs y ⊎ (x ≡ y)) → ((y : Points) → ContainsAt xs y → ContainsAt zs y) → ContainsAt zs x →
+    (ContainsAt xs x → ⊥) → PutIn Precedes row rows ys → InRows xs rows → InRows zs ys
 in_rows_more xs zs x row rows ys is back on there absent put f =
     record {
-      strict = put_strictly Precedes row_order row rows ys put f.strict (λ h. absent (subst (Has xs) is (f.only row h)));
+      strict = put_strictly Precedes row_order row rows ys put f.strict (λ h. absent (subst (ContainsAt xs) is (f.only row h)));
       only = λ r h. elim (put_adds_only Precedes row rows ys put r h) [
         | inl old ↦ on (has r) (f.only r old)
-        | inr e ↦ subst (Has zs) (sym is ∙ ap has e) there
+        | inr e ↦ subst (ContainsAt zs) (sym is ∙ ap has e) there
       ];
       each = λ y h. elim (back y h) [
         | inl old ↦ let (r, among, same) = f.each y old in (r, put_keeps Precedes row rows ys put r among, same)
@@ -40,7 +40,7 @@ in_rows_more xs zs x row rows ys is back on there absent put f =
     }
 
 -- sets of points below 128, each once, can be put in rows
-pub rows_for : (xs : List Points) → Distinct xs → ((x : Points) → Has xs x → (a : ℕ) → x a ≡ true → a < 128) →
+pub rows_for : (xs : List Points) → Distinct xs → ((x : Points) → ContainsAt xs x → (a : ℕ) → x a ≡ true → a < 128) →
     (rows : List Ruling) × InRows xs rows × (length rows ≡ length xs)
 rows_for [] d small = ([], in_rows_none, refl)
 rows_for (x ∷ xs) d small =
@@ -52,7 +52,7 @@ rows_for (x ∷ xs) d small =
       omega (arith, put_length Precedes (ruling_of x) rows ys put),
     )
   where
-    swap : (xs : List Points) (x y : Points) → Has (x ∷ xs) y → Has xs y ⊎ (x ≡ y)
+    swap : (xs : List Points) (x y : Points) → ContainsAt (x ∷ xs) y → ContainsAt xs y ⊎ (x ≡ y)
     swap xs x y h =
         elim (has_cases xs x y h) [
           | inl e ↦ inr e
@@ -60,7 +60,7 @@ rows_for (x ∷ xs) d small =
         ]
 
 -- a set that stands later in a list without repetition is not among the earlier ones
-pub not_earlier : (xs ys : List Points) (x : Points) → Distinct (xs ++ x ∷ ys) → Has xs x → ⊥
+pub not_earlier : (xs ys : List Points) (x : Points) → Distinct (xs ++ x ∷ ys) → ContainsAt xs x → ⊥
 not_earlier [] ys x d h = has_none x h
 not_earlier (y ∷ xs) ys x d h =
     elim (has_cases xs y x h) [
@@ -77,7 +77,7 @@ pub record Kept (xs : List Points) (count : ℕ) (found rows : List Ruling) : Ty
 pub kept_none : (found : List Ruling) → Kept [] 0 found found
 kept_none found = record { as_long = refl; later = refl; first = λ h. in_rows_none }
 
-pub kept_more : (xs : List Points) (count : ℕ) (found rows rows' : List Ruling) (x : Points) (row : Ruling) (r : Bool) → has row ≡ x → (Has xs x → ⊥) →
+pub kept_more : (xs : List Points) (count : ℕ) (found rows rows' : List Ruling) (x : Points) (row : Ruling) (r : Bool) → has row ≡ x → (ContainsAt xs x → ⊥) →
     length rows' ≡ length rows → Inserted Precedes rows count row r rows' → Kept xs count found rows → Kept (xs ++ x ∷ []) (count + 1) found rows'
 kept_more xs count found rows rows' x row true is absent same inserted k =
     record {
@@ -88,7 +88,7 @@ kept_more xs count found rows rows' x row true is absent same inserted k =
           (has_append_right xs (x ∷ []) x (has_first [] x)) absent (inserted_first Precedes row rows count rows' inserted) (k.first (let n = inserted.0 in omega arith));
     }
   where
-    push : (y : Points) → Has (xs ++ x ∷ []) y → Has xs y ⊎ (x ≡ y)
+    push : (y : Points) → ContainsAt (xs ++ x ∷ []) y → ContainsAt xs y ⊎ (x ≡ y)
     push y h =
         elim (has_append_cases xs (x ∷ []) y h) [
           | inl l ↦ inl l

@@ -1,6 +1,6 @@
 -- Gathering the upward readings pair by pair, and what is left to gather where the rows do not suffice.
 use Rattle.std.proofs.Common.{◌≡◌, ℕ, zero, suc, ◌+◌, ◌-◌, ◌<◌, ◌≤◌, true, false, ◌⊎◌, List, [], length, take, drop, sym, refl, ap, ◌∙◌, subst, inl, inr, arith}
-use Rattle.std.specs.List.{ContainsAt as Has}
+use Rattle.std.specs.List.{ContainsAt}
 use Rattle.std.proofs.lemmas.List.{length-take-le}
 use Rattle.std.proofs.lemmas.Bool.{cases_lt, cases_Bool}
 use Rattle.rows.specs.Rows.{PutIn, Inserted}
@@ -46,7 +46,7 @@ module _ (m : Meaning) (ch : ℕ → ℕ) where
 
   module _ (i j : ℕ) (xs : List UpwardReading) (g : Gathered m ch i j xs) where
     -- the row of the next pair is not there yet
-    absent : Has xs (reading_row ch i j) → ⊥
+    absent : ContainsAt xs (reading_row ch i j) → ⊥
     absent h =
         let (a, b, p, u, e) = g.upward_only (reading_row ch i j) h in
         not_before_itself i j a b (ap (λ (r : UpwardReading). r.reader) e) (ap (λ (r : UpwardReading). r.read) e) p

@@ -1,7 +1,7 @@
 -- The walk of a listing: what holds at each of its turns, and how it ends.
 use Rattle.std.proofs.Common.{◌≡◌, ℕ, ◌+◌, ◌-◌, ◌^◌, ◌<◌, ◌≤◌, Bool, true, false, ◌&&◌, ◌||◌, eqb, ltb, ◌↔◌, List, [], ◌∷◌, ◌++◌, length, get_or, take, drop, set, sym, refl, ap, ◌∙◌, subst, ap₂, inl, inr, append_assoc, arith, length-set, take-append-drop, pow_mono, lt-ltb}
 use mathlib.Core.Path.{fun_ext}
-use Rattle.std.specs.List.{ContainsAt as Has}
+use Rattle.std.specs.List.{ContainsAt}
 use Rattle.std.proofs.lemmas.List.{length_push, length-take-le, take_all, get_or-take, get_or-set_same, get_or-set_other}
 use Rattle.std.proofs.lemmas.Bool.{cases_lt, cases_Bool}
 use Rattle.rulings.specs.Points.{Points}
@@ -129,7 +129,7 @@ module _ (m : Meaning) (l : Lawful m) (ch : ℕ → ℕ) where
         let (rows, f, long) = rows_for (completed m ch (all_tries m ch)) distinct small in
         (rows, in_row_order rows f, omega arith)
       where
-        small : (x : Points) → Has (completed m ch (all_tries m ch)) x → (a : ℕ) → x a ≡ true → a < 128
+        small : (x : Points) → ContainsAt (completed m ch (all_tries m ch)) x → (a : ℕ) → x a ≡ true → a < 128
         small x there a e =
             omega (arith, l.few_points, filled_inside m l ch 16 x (record { lower = λ b f. few b; stable = every.only x there }) a e)
 
@@ -310,7 +310,7 @@ module _ (m : Meaning) (l : Lawful m) (ch : ℕ → ℕ) where
                 completed_more m ch (all_tries m ch) effort _ _ hit (hit_completes m ch (stable_test m ch) (levels m ch) picks level c passed top)
                 ∙ ap (λ (x : Points). completed m ch (take effort (all_tries m ch)) ++ x ∷ []) (sym is)
 
-            new : Has (completed m ch (take effort (all_tries m ch))) (has ruling) → ⊥
+            new : ContainsAt (completed m ch (take effort (all_tries m ch))) (has ruling) → ⊥
             new =
                 not_earlier (completed m ch (take effort (all_tries m ch))) (completed m ch (drop (effort + 1) (all_tries m ch))) (has ruling)
                 (subst Distinct

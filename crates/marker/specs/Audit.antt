@@ -1,6 +1,6 @@
 -- The audit: all upward readings, each once, in their order.
 use Rattle.std.specs.Prelude.{◌≡◌, ℕ, ◌-◌, ◌<◌, ◌≤◌, true, List, length, take, drop, replicate, Ok, Err, Result}
-use Rattle.std.specs.List.{ContainsAt as Has}
+use Rattle.std.specs.List.{ContainsAt}
 use Rattle.rows.specs.Rows.{StrictlyInOrder}
 use Rattle.semantics.specs.Meaning.{Meaning}
 use Rattle.answers.specs.declared.fault.Refusal.TheVariants.{ListTooShort}
@@ -17,8 +17,8 @@ reading_row ch a b = record { drop = ch b - ch a; reader = a; read = b }
 
 -- the rows are all the upward readings, each once, in their order
 pub record AllUpward (m : Meaning) (ch : ℕ → ℕ) (rows : List UpwardReading) : Type 0 where
-  pub upward_only : (r : UpwardReading) → Has rows r → (a : ℕ) × (b : ℕ) × (upward m ch a b ≡ true) × (r ≡ reading_row ch a b)
-  pub each_there : (a b : ℕ) → upward m ch a b ≡ true → Has rows (reading_row ch a b)
+  pub upward_only : (r : UpwardReading) → ContainsAt rows r → (a : ℕ) × (b : ℕ) × (upward m ch a b ≡ true) × (r ≡ reading_row ch a b)
+  pub each_there : (a b : ℕ) → upward m ch a b ≡ true → ContainsAt rows (reading_row ch a b)
   pub in_order : StrictlyInOrder AuditedBefore rows
 
 -- there are more than n upward readings

@@ -1,6 +1,6 @@
 -- An audit under way: the upward readings of the pairs of points gone through so far. No public contract cites this file.
 use Rattle.std.specs.Prelude.{◌≡◌, ℕ, ◌+◌, ◌<◌, ◌≤◌, true, ◌⊎◌, List, length, get_or, take, drop, Some, None, Option}
-use Rattle.std.specs.List.{ContainsAt as Has}
+use Rattle.std.specs.List.{ContainsAt}
 use Rattle.rows.specs.Rows.{StrictlyInOrder}
 use Rattle.semantics.specs.Meaning.{Meaning}
 use Rattle.answers.specs.declared.audit.UpwardReading.{UpwardReading}
@@ -14,8 +14,8 @@ PairBefore i j a b = (a < i) ⊎ ((a ≡ i) × (b < j))
 
 -- the rows are all the upward readings of the pairs before (i, j), each once, in their order
 pub record Gathered (m : Meaning) (ch : ℕ → ℕ) (i j : ℕ) (rows : List UpwardReading) : Type 0 where
-  pub upward_only : (r : UpwardReading) → Has rows r → (a : ℕ) × (b : ℕ) × PairBefore i j a b × (upward m ch a b ≡ true) × (r ≡ reading_row ch a b)
-  pub each_there : (a b : ℕ) → PairBefore i j a b → upward m ch a b ≡ true → Has rows (reading_row ch a b)
+  pub upward_only : (r : UpwardReading) → ContainsAt rows r → (a : ℕ) × (b : ℕ) × PairBefore i j a b × (upward m ch a b ≡ true) × (r ≡ reading_row ch a b)
+  pub each_there : (a b : ℕ) → PairBefore i j a b → upward m ch a b ≡ true → ContainsAt rows (reading_row ch a b)
   pub in_order : StrictlyInOrder AuditedBefore rows
 
 -- the first n rows are such

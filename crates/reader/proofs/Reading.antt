@@ -1,6 +1,6 @@
 -- Every input of bytes reads as some calls, with some ending.
 use Rattle.std.proofs.Common.{◌≡◌, ℕ, zero, suc, ◌+◌, ◌<◌, ◌≤◌, ◌⊎◌, List, [], ◌∷◌, ◌++◌, length, get_or, take, drop, None, sym, refl, ap, ◌∙◌, subst, ap₂, inl, inr, append_assoc, arith, length-append, length-drop, take-append-drop, length-take, get_or-drop, get_or-take, get_or-append-add, take-add}
-use Rattle.std.specs.List.{ContainsAt as Has}
+use Rattle.std.specs.List.{ContainsAt}
 use Rattle.std.proofs.lemmas.List.{get_or_past}
 use Rattle.std.proofs.lemmas.Bool.{cases_lt, cases_eq}
 use Rattle.rulings.specs.declared.ruling.Ruling.{Ruling}
@@ -108,7 +108,7 @@ one_more xs rest c l e (cs, f, r) = (
   },
 )
   where
-    lends : (d : Call) → Has (c ∷ cs) d → Lends64 d
+    lends : (d : Call) → ContainsAt (c ∷ cs) d → Lends64 d
     lends d (zero, _, at) = subst Lends64 (at c) l
     lends d (suc i, within, at) = r.lends d (i, omega arith, at)
 

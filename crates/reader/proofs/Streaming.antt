@@ -1,6 +1,6 @@
 -- A stream under way: the calls read and answered so far, one record more, and how it ends.
 use Rattle.std.proofs.Common.{◌≡◌, ℕ, ◌+◌, ◌-◌, ◌<◌, ◌≤◌, ◌⊎◌, List, [], ◌∷◌, ◌++◌, length, take, drop, Ok, Err, sym, refl, ap, ◌∙◌, subst, inl, inr, ⊎_elim, append_assoc, append-nil, arith, length-append}
-use Rattle.std.specs.List.{ContainsAt as Has}
+use Rattle.std.specs.List.{ContainsAt}
 use Rattle.std.proofs.ByRecursion.{has_push_cases}
 use Rattle.std.proofs.lemmas.List.{take_at, drop_at, drop-drop}
 use Rattle.answers.specs.declared.fault.Fault.{Fault}
@@ -54,7 +54,7 @@ module _ {B : Type 0} (S : Sort B) (start : Marker B) (input : List ℕ) where
   pub record SoFar (place : ℕ) (output : List ℕ) (now : Marker B) : Type 0 where
     pub calls : List Call
     pub answers : List Told
-    pub lends : (c : Call) → Has calls c → Lends64 c
+    pub lends : (c : Call) → ContainsAt calls c → Lends64 c
     pub bytes : input ≡ records_of calls ++ drop place input
     pub behind : place ≡ length (records_of calls)
     pub history : History (marker_calls S) start calls answers now

@@ -1,6 +1,6 @@
 -- The format of records: a kind byte, then a body.
 use Rattle.std.specs.Prelude.{◌≡◌, ℕ, ◌<◌, List, [], ◌∷◌, ◌++◌, length, Some, None, Option, ◌≢◌, slice_index}
-use Rattle.std.specs.List.{ContainsAt as Has, flat_map}
+use Rattle.std.specs.List.{ContainsAt, flat_map}
 use Rattle.runs.specs.declared.call.Call.{Call}
 use Rattle.runs.specs.declared.call.Call.TheVariants as call
 use Rattle.reader.specs.declared.kind.Kind.{Kind}
@@ -95,7 +95,7 @@ Ends front.Cut = Unit {0}
 
 -- the input reads as these calls, and so ends
 pub record ReadsAs (input : List ℕ) (calls : List Call) (ending : Front) : Type 0 where
-  pub lends : (c : Call) → Has calls c → Lends64 c
+  pub lends : (c : Call) → ContainsAt calls c → Lends64 c
   pub tail : List ℕ
   pub bytes : input ≡ records_of calls ++ tail
   pub at_tail : AtFront tail ending
@@ -112,5 +112,5 @@ ReadOneWay = (input : List ℕ) (cs ds : List Call) (e f : Front) → ReadsAs in
 -- the records of any calls that lend 64 rows read as these calls, and as no others
 abbrev pub RecordsReadBack : Type 0
 RecordsReadBack =
-    (cs : List Call) → ((c : Call) → Has cs c → Lends64 c) →
+    (cs : List Call) → ((c : Call) → ContainsAt cs c → Lends64 c) →
     ReadsAs (records_of cs) cs front.End × ((ds : List Call) (e : Front) → ReadsAs (records_of cs) ds e → (ds ≡ cs) × (e ≡ front.End))

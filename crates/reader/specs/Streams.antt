@@ -1,6 +1,6 @@
 -- Whole streams: all records of an input, and all replies.
 use Rattle.std.specs.Prelude.{◌≡◌, ℕ, ◌+◌, ◌<◌, List, [], ◌∷◌, ◌++◌, length, take}
-use Rattle.std.specs.List.{ContainsAt as Has}
+use Rattle.std.specs.List.{ContainsAt}
 use Rattle.answers.specs.declared.fault.Refusal.TheVariants.{InputTooLong, UnknownRecord, CutRecord}
 use Rattle.books.specs.declared.book.Book.{Ghosts as Sort}
 use Rattle.marker.specs.declared.marker.Marker.{Marker}
@@ -50,4 +50,4 @@ TooLong start input output end =
 abbrev pub ServedSoFar : {B : Type 0} → Sort B → Marker B → List ℕ → Marker B → Type 0
 ServedSoFar S start input end =
     (calls : List Call) × (answers : List Told) × (rest : List ℕ)
-    × ((c : Call) → Has calls c → Lends64 c) × (input ≡ records_of calls ++ rest) × History (marker_calls S) start calls answers end
+    × ((c : Call) → ContainsAt calls c → Lends64 c) × (input ≡ records_of calls ++ rest) × History (marker_calls S) start calls answers end

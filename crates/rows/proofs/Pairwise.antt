@@ -1,6 +1,6 @@
 -- Lists whose elements stand pairwise in a relation, each to all later ones.
 use Rattle.std.proofs.Common.{ℕ, zero, suc, ◌<◌, List, [], ◌∷◌, ◌++◌, length, get_or, arith}
-use Rattle.std.specs.List.{AllByRecursion as All}
+use Rattle.std.specs.List.{AllByRecursion}
 use Rattle.std.proofs.ByRecursion.{All-get_or, All-from_get_or}
 
 module _ {A : Type 0} (R : A → A → Type 0) where
@@ -11,7 +11,7 @@ module _ {A : Type 0} (R : A → A → Type 0) where
   -- the same, element by element
   abbrev pub Pairwise : List A → Type 0
   Pairwise [] = Unit {0}
-  Pairwise (x ∷ xs) = All (R x) xs × Pairwise xs
+  Pairwise (x ∷ xs) = AllByRecursion (R x) xs × Pairwise xs
 
   pub from_places : (xs : List A) → ByPlaces xs → Pairwise xs
   from_places [] p = tt
@@ -27,10 +27,10 @@ module _ {A : Type 0} (R : A → A → Type 0) where
 
   -- a row that all before it stand to in R, and that stands to all behind it
   pub pairwise_put : (front back : List A) (row : A)
-      → Pairwise (front ++ back) → All (λ x. R x row) front → All (R row) back → Pairwise (front ++ row ∷ back)
+      → Pairwise (front ++ back) → AllByRecursion (λ x. R x row) front → AllByRecursion (R row) back → Pairwise (front ++ row ∷ back)
   pairwise_put [] back row p f b = (b, p)
   pairwise_put (x ∷ front) back row p f b = (all_put front p.0, pairwise_put front back row p.1 f.1 b)
     where
-      all_put : (ys : List A) → All (R x) (ys ++ back) → All (R x) (ys ++ row ∷ back)
+      all_put : (ys : List A) → AllByRecursion (R x) (ys ++ back) → AllByRecursion (R x) (ys ++ row ∷ back)
       all_put [] a = (f.0, a)
       all_put (y ∷ ys) a = (a.0, all_put ys a.1)

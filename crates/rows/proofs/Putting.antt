@@ -1,6 +1,6 @@
 -- A row put among rows: length, elements and order, for any strict total order.
 use Rattle.std.proofs.Common.{◌≡◌, ℕ, zero, suc, ◌+◌, ◌-◌, ◌≤◌, true, ◌⊎◌, List, [], ◌∷◌, ◌++◌, length, take, drop, sym, refl, ap, ◌∙◌, subst, inl, inr, arith, length-append}
-use Rattle.std.specs.List.{ContainsAt as Has, AllByRecursion as All}
+use Rattle.std.specs.List.{ContainsAt, AllByRecursion}
 use Rattle.std.proofs.ByRecursion.{All-weaker, has_append_left, has_append_right}
 use Rattle.std.proofs.lemmas.List.{same_from_push, length-take-le, take_at, drop_at, drop-drop}
 use Rattle.rulings.specs.Order.{StrictTotal}
@@ -8,24 +8,24 @@ use Rattle.rows.specs.Rows.{InOrder, PutIn, Inserted}
 use Rattle.rows.proofs.Pairwise.{ByPlaces, Pairwise, from_places, to_places, pairwise_put}
 
 module _ {A : Type 0} where
-  pub has_first : (xs : List A) (x : A) → Has (x ∷ xs) x
+  pub has_first : (xs : List A) (x : A) → ContainsAt (x ∷ xs) x
   has_first xs x = (0, omega arith, λ d. refl)
 
-  pub has_later : (xs : List A) (y x : A) → Has xs x → Has (y ∷ xs) x
+  pub has_later : (xs : List A) (y x : A) → ContainsAt xs x → ContainsAt (y ∷ xs) x
   has_later xs y x (k, h, is) = (suc k, omega arith, is)
 
   none_pushed : (rest : List A) (last : A) → [] ≡ rest ++ last ∷ [] → ⊥
   none_pushed rest last e = omega (arith, ap length e, length-append rest (last ∷ []))
 
-  has_cases : (xs : List A) (y x : A) → Has (y ∷ xs) x → (y ≡ x) ⊎ Has xs x
+  has_cases : (xs : List A) (y x : A) → ContainsAt (y ∷ xs) x → (y ≡ x) ⊎ ContainsAt xs x
   has_cases xs y x (zero, h, is) = inl (is x)
   has_cases xs y x (suc k, h, is) = inr (k, omega arith, is)
 
-  has_append_cases : (xs ys : List A) (x : A) → Has (xs ++ ys) x → Has xs x ⊎ Has ys x
+  has_append_cases : (xs ys : List A) (x : A) → ContainsAt (xs ++ ys) x → ContainsAt xs x ⊎ ContainsAt ys x
   has_append_cases [] ys x h = inr h
   has_append_cases (y ∷ xs) ys x h =
       elim (has_cases (xs ++ ys) y x h) [
-        | inl e ↦ inl (subst (λ (z : A). Has (y ∷ xs) z) e (has_first xs y))
+        | inl e ↦ inl (subst (λ (z : A). ContainsAt (y ∷ xs) z) e (has_first xs y))
         | inr l ↦ elim (has_append_cases xs ys x l) [
           | inl f ↦ inl (has_later xs y x f)
           | inr b ↦ inr b
@@ -37,23 +37,23 @@ module _ {A : Type 0} (before : A → A → Type 0) (row : A) (xs ys : List A) (
   put_length =
       omega (arith, ap length put.result, ap length put.split, length-append put.front put.back, length-append put.front (row ∷ put.back))
 
-  pub put_has_row : Has ys row
+  pub put_has_row : ContainsAt ys row
   put_has_row =
-      subst (λ (zs : List A). Has zs row) (sym put.result) (has_append_right put.front (row ∷ put.back) row (has_first put.back row))
+      subst (λ (zs : List A). ContainsAt zs row) (sym put.result) (has_append_right put.front (row ∷ put.back) row (has_first put.back row))
 
   -- the rows that were there are there still
-  pub put_keeps : (x : A) → Has xs x → Has ys x
+  pub put_keeps : (x : A) → ContainsAt xs x → ContainsAt ys x
   put_keeps x h =
-      subst (λ (zs : List A). Has zs x) (sym put.result)
-      (elim (has_append_cases put.front put.back x (subst (λ (zs : List A). Has zs x) put.split h)) [
+      subst (λ (zs : List A). ContainsAt zs x) (sym put.result)
+      (elim (has_append_cases put.front put.back x (subst (λ (zs : List A). ContainsAt zs x) put.split h)) [
         | inl f ↦ has_append_left put.front (row ∷ put.back) x f
         | inr b ↦ has_append_right put.front (row ∷ put.back) x (has_later put.back row x b)
       ])
 
   -- and no others but the row itself
-  pub put_adds_only : (x : A) → Has ys x → Has xs x ⊎ (row ≡ x)
+  pub put_adds_only : (x : A) → ContainsAt ys x → ContainsAt xs x ⊎ (row ≡ x)
   put_adds_only x h =
-      elim (has_append_cases put.front (row ∷ put.back) x (subst (λ (zs : List A). Has zs x) put.result h)) [
+      elim (has_append_cases put.front (row ∷ put.back) x (subst (λ (zs : List A). ContainsAt zs x) put.result h)) [
         | inl f ↦ inl (back_to (has_append_left put.front put.back x f))
         | inr b ↦ elim (has_cases put.back row x b) [
           | inl e ↦ inr e
@@ -61,8 +61,8 @@ module _ {A : Type 0} (before : A → A → Type 0) (row : A) (xs ys : List A) (
         ]
       ]
     where
-      back_to : Has (put.front ++ put.back) x → Has xs x
-      back_to k = subst (λ (zs : List A). Has zs x) (sym put.split) k
+      back_to : ContainsAt (put.front ++ put.back) x → ContainsAt xs x
+      back_to k = subst (λ (zs : List A). ContainsAt zs x) (sym put.split) k
 
 module _ {A : Type 0} (before : A → A → Type 0) (order : StrictTotal before) (row : A) where
   -- the row does not come before x, if it does not come before y, which stands in order behind x
@@ -76,7 +76,7 @@ module _ {A : Type 0} (before : A → A → Type 0) (order : StrictTotal before)
 
   -- the row comes before none of the rows ahead of its place
   before_none : (front : List A) → Pairwise (λ x y. before y x → ⊥) front
-      → ((rest : List A) (last : A) → front ≡ rest ++ last ∷ [] → before row last → ⊥) → All (λ x. before row x → ⊥) front
+      → ((rest : List A) (last : A) → front ≡ rest ++ last ∷ [] → before row last → ⊥) → AllByRecursion (λ x. before row x → ⊥) front
   before_none [] p behind = tt
   before_none (x ∷ []) p behind = (behind [] x refl, tt)
   before_none (x ∷ y ∷ ys) p behind =
@@ -90,16 +90,16 @@ module _ {A : Type 0} (before : A → A → Type 0) (order : StrictTotal before)
   pairwise_front R [] back p = tt
   pairwise_front R (x ∷ front) back p = (all_front front p.0, pairwise_front R front back p.1)
     where
-      all_front : (ys : List A) → All (R x) (ys ++ back) → All (R x) ys
+      all_front : (ys : List A) → AllByRecursion (R x) (ys ++ back) → AllByRecursion (R x) ys
       all_front [] a = tt
       all_front (y ∷ ys) a = (a.0, all_front ys a.1)
 
   module _ (xs ys : List A) (put : PutIn before row xs ys) where
-    none_ahead : Pairwise (λ x y. before y x → ⊥) xs → All (λ x. before row x → ⊥) put.front
+    none_ahead : Pairwise (λ x y. before y x → ⊥) xs → AllByRecursion (λ x. before row x → ⊥) put.front
     none_ahead p =
         before_none put.front (pairwise_front (λ x y. before y x → ⊥) put.front put.back (subst (Pairwise (λ x y. before y x → ⊥)) put.split p)) put.behind
 
-    put_pairwise : (R : A → A → Type 0) → Pairwise R xs → All (λ x. R x row) put.front → All (R row) put.back → Pairwise R ys
+    put_pairwise : (R : A → A → Type 0) → Pairwise R xs → AllByRecursion (λ x. R x row) put.front → AllByRecursion (R row) put.back → Pairwise R ys
     put_pairwise R p f b =
         subst (Pairwise R) (sym put.result) (pairwise_put R put.front put.back row (subst (Pairwise R) put.split p) f b)
 
@@ -111,7 +111,7 @@ module _ {A : Type 0} (before : A → A → Type 0) (order : StrictTotal before)
         (put_pairwise (λ x y. before y x → ⊥) p (none_ahead p) (All-weaker (before row) (λ x. before x row → ⊥) (asymmetric row) put.back put.ahead_of))
 
     -- rows that strictly increase still do, if the row is not among them
-    pub put_strictly : ByPlaces before xs → (Has xs row → ⊥) → ByPlaces before ys
+    pub put_strictly : ByPlaces before xs → (ContainsAt xs row → ⊥) → ByPlaces before ys
     put_strictly strict absent =
         let p = from_places before xs strict in
         to_places before ys
@@ -121,24 +121,24 @@ module _ {A : Type 0} (before : A → A → Type 0) (order : StrictTotal before)
         weak [] q = tt
         weak (z ∷ zs) q = (All-weaker (before z) (λ x. before x z → ⊥) (asymmetric z) zs q.0, weak zs q.1)
 
-        comes : (x : A) → Has put.front x → (before row x → ⊥) → before x row
+        comes : (x : A) → ContainsAt put.front x → (before row x → ⊥) → before x row
         comes x h none =
             elim (order.total x row) [
               | inl l ↦ l
               | inr (inl e) ↦ absurd
                   (absent
-                  (subst (λ (zs : List A). Has zs row) (sym put.split)
-                  (has_append_left put.front put.back row (subst (λ (z : A). Has put.front z) e h))))
+                  (subst (λ (zs : List A). ContainsAt zs row) (sym put.split)
+                  (has_append_left put.front put.back row (subst (λ (z : A). ContainsAt put.front z) e h))))
               | inr (inr g) ↦ absurd (none g)
             ]
 
-        ahead : (zs : List A) → ((x : A) → Has zs x → Has put.front x) → All (λ x. before row x → ⊥) zs → All (λ x. before x row) zs
+        ahead : (zs : List A) → ((x : A) → ContainsAt zs x → ContainsAt put.front x) → AllByRecursion (λ x. before row x → ⊥) zs → AllByRecursion (λ x. before x row) zs
         ahead [] there q = tt
         ahead (z ∷ zs) there q = (comes z (there z (has_first zs z)) q.0, ahead zs (λ x h. there x (has_later zs z x h)) q.1)
 
   -- a row put among rows is put among one more at their front
   put_behind : (x : A) (xs front back : List A)
-      → xs ≡ front ++ back → All (before row) back → ((rest : List A) (last : A) → front ≡ rest ++ last ∷ [] → before row last → ⊥)
+      → xs ≡ front ++ back → AllByRecursion (before row) back → ((rest : List A) (last : A) → front ≡ rest ++ last ∷ [] → before row last → ⊥)
       → (ys : List A) × PutIn before row (x ∷ xs) ys
   put_behind x xs [] back e ahead behind =
       elim (order.total row x) [

@@ -1,6 +1,6 @@
 -- Lists with the same rows, strictly in order, are equal.
 use Rattle.std.proofs.Common.{◌≡◌, ℕ, zero, suc, ◌<◌, ◌⊎◌, ◌↔◌, List, [], ◌∷◌, length, get_or, sym, refl, ap, ◌∙◌, subst, inl, inr, arith}
-use Rattle.std.specs.List.{ContainsAt as Has, AllByRecursion as All}
+use Rattle.std.specs.List.{ContainsAt, AllByRecursion}
 use Rattle.std.proofs.ByRecursion.{all-has}
 use Rattle.rulings.specs.Order.{StrictTotal}
 use Rattle.rows.specs.Rows.{StrictlyInOrder, SameRowsSameList}
@@ -8,11 +8,11 @@ use Rattle.rows.proofs.Pairwise.{Pairwise, from_places}
 use Rattle.rows.proofs.Putting.{has_first, has_later}
 
 -- an element of a list is its first or one of the rest
-has_cases : {A : Type 0} (x y : A) (ys : List A) → Has (y ∷ ys) x → (y ≡ x) ⊎ Has ys x
+has_cases : {A : Type 0} (x y : A) (ys : List A) → ContainsAt (y ∷ ys) x → (y ≡ x) ⊎ ContainsAt ys x
 has_cases x y ys (zero, l, at) = inl (at x)
 has_cases x y ys (suc k, l, at) = inr (k, omega arith, at)
 
-has_none : {A : Type 0} {B : Type 0} (x : A) → Has [] x → B
+has_none : {A : Type 0} {B : Type 0} (x : A) → ContainsAt [] x → B
 has_none x (k, l, at) = absurd (omega arith)
 
 module _ {A : Type 0} (before : A → A → Type 0) (strict : StrictTotal before) where
@@ -21,14 +21,14 @@ module _ {A : Type 0} (before : A → A → Type 0) (strict : StrictTotal before
   both_before a b p q = absurd (strict.irreflexive a (strict.transitive a b a p q))
 
   -- the first of a list comes before no element of the same rows' first
-  not_before : {B : Type 0} (x y : A) (ys : List A) → All (before y) ys → Has (y ∷ ys) x → before x y → B
+  not_before : {B : Type 0} (x y : A) (ys : List A) → AllByRecursion (before y) ys → ContainsAt (y ∷ ys) x → before x y → B
   not_before x y ys later h p = go (has_cases x y ys h)
     where
-      go : {B : Type 0} → (y ≡ x) ⊎ Has ys x → B
+      go : {B : Type 0} → (y ≡ x) ⊎ ContainsAt ys x → B
       go (inl e) = absurd (strict.irreflexive x (subst (λ (z : A). before x z) e p))
       go (inr i) = both_before x y p (all-has (before y) ys x later i)
 
-  same_first : (x y : A) (xs ys : List A) → All (before x) xs → All (before y) ys → Has (y ∷ ys) x → Has (x ∷ xs) y → x ≡ y
+  same_first : (x y : A) (xs ys : List A) → AllByRecursion (before x) xs → AllByRecursion (before y) ys → ContainsAt (y ∷ ys) x → ContainsAt (x ∷ xs) y → x ≡ y
   same_first x y xs ys p q h k = go (strict.total x y)
     where
       go : before x y ⊎ ((x ≡ y) ⊎ before y x) → x ≡ y
@@ -37,14 +37,14 @@ module _ {A : Type 0} (before : A → A → Type 0) (strict : StrictTotal before
       go (inr (inr b)) = not_before y x xs p k b
 
   -- what is behind the first of both is the same
-  rest : (x y : A) (xs ys : List A) → x ≡ y → All (before x) xs → ((r : A) → Has (x ∷ xs) r → Has (y ∷ ys) r) → (r : A) → Has xs r → Has ys r
+  rest : (x y : A) (xs ys : List A) → x ≡ y → AllByRecursion (before x) xs → ((r : A) → ContainsAt (x ∷ xs) r → ContainsAt (y ∷ ys) r) → (r : A) → ContainsAt xs r → ContainsAt ys r
   rest x y xs ys e p f r h = go (has_cases r y ys (f r (has_later xs x r h)))
     where
-      go : (y ≡ r) ⊎ Has ys r → Has ys r
+      go : (y ≡ r) ⊎ ContainsAt ys r → ContainsAt ys r
       go (inl q) = absurd (strict.irreflexive x (subst (λ (z : A). before x z) (sym (e ∙ q)) (all-has (before x) xs r p h)))
       go (inr i) = i
 
-  same : (xs ys : List A) → Pairwise before xs → Pairwise before ys → ((r : A) → Has xs r → Has ys r) → ((r : A) → Has ys r → Has xs r) → xs ≡ ys
+  same : (xs ys : List A) → Pairwise before xs → Pairwise before ys → ((r : A) → ContainsAt xs r → ContainsAt ys r) → ((r : A) → ContainsAt ys r → ContainsAt xs r) → xs ≡ ys
   same [] [] p q f g = refl
   same [] (y ∷ ys) p q f g = has_none y (g y (has_first ys y))
   same (x ∷ xs) [] p q f g = has_none x (f x (has_first xs x))

@@ -1,6 +1,6 @@
 -- Rows shifted one place on from the end, to make room for a row.
 use Rattle.std.proofs.Common.{◌≡◌, ℕ, ◌+◌, ◌-◌, ◌<◌, ◌≤◌, true, List, [], ◌∷◌, ◌++◌, length, get_or, take, drop, set, sym, refl, ap, ◌∙◌, subst, append_assoc, arith, length-append}
-use Rattle.std.specs.List.{AllByRecursion as All}
+use Rattle.std.specs.List.{AllByRecursion}
 use Rattle.std.proofs.lemmas.List.{append-nil, take-append-drop, drop_more, length-take-le, get_or_at, set_at}
 use Rattle.rulings.specs.Order.{StrictTotal}
 use Rattle.rows.specs.Rows.{PutIn, Inserted}
@@ -16,7 +16,7 @@ pub record Shifted {A : Type 0} (before : A → A → Type 0) (row : A) (xs rows
   pub split : take count xs ≡ front ++ back
   pub up_to : length front ≡ place
   pub held : rows ≡ front ++ gap ∷ (back ++ drop (count + 1) xs)
-  pub ahead_of : All (before row) back
+  pub ahead_of : AllByRecursion (before row) back
 
 -- the last of some elements
 last_of : {A : Type 0} (xs : List A) → 0 < length xs → (rest : List A) × (last : A) × (xs ≡ rest ++ last ∷ [])

@@ -1,6 +1,6 @@
 -- Rows in order, and a row put among them.
 use Rattle.std.specs.Prelude.{◌≡◌, ℕ, ◌+◌, ◌<◌, ◌≤◌, Bool, true, false, ◌↔◌, List, [], ◌∷◌, ◌++◌, length, take, drop, slice_index_or}
-use Rattle.std.specs.List.{ContainsAt as Has, AllByRecursion as All}
+use Rattle.std.specs.List.{ContainsAt, AllByRecursion}
 
 module _ {A : Type 0} (before : A → A → Type 0) where
   -- no row stands behind one that it comes before
@@ -14,7 +14,7 @@ module _ {A : Type 0} (before : A → A → Type 0) where
   -- the same rows, strictly in order, are the same list
   abbrev pub SameRowsSameList : Type 0
   SameRowsSameList =
-      (xs ys : List A) → StrictlyInOrder xs → StrictlyInOrder ys → ((r : A) → Has xs r ↔ Has ys r) → xs ≡ ys
+      (xs ys : List A) → StrictlyInOrder xs → StrictlyInOrder ys → ((r : A) → ContainsAt xs r ↔ ContainsAt ys r) → xs ≡ ys
 
   -- ys is xs with the row put in: it goes ahead of the rows at the end that it comes before, and behind all others
   pub record PutIn (row : A) (xs ys : List A) : Type 0 where
@@ -22,7 +22,7 @@ module _ {A : Type 0} (before : A → A → Type 0) where
     pub back : List A
     pub split : xs ≡ front ++ back
     pub result : ys ≡ front ++ row ∷ back
-    pub ahead_of : All (λ x. before row x) back
+    pub ahead_of : AllByRecursion (λ x. before row x) back
     pub behind : (rest : List A) (last : A) → front ≡ rest ++ last ∷ [] → before row last → ⊥
 
   -- what the ordered insertion leaves of xs, whose first n rows were in use: the row put in, in order if they were, and the later rows as found;

@@ -1,7 +1,7 @@
 -- The fillings of the lower chapters with stable parts, listed chapter by chapter: each of them, and each once.
 use Rattle.std.proofs.Common.{◌≡◌, ℕ, zero, suc, ◌+◌, ◌^◌, ◌<◌, ◌≤◌, Bool, true, false, cond, ◌&&◌, ◌||◌, eqb, ltb, ◌⊎◌, List, [], ◌∷◌, sym, refl, ap, ◌∙◌, subst, ap₂, inl, inr, le_of_suc-le-suc, eq-or-lt_of_le, arith}
 use mathlib.Core.Path.{fun_ext}
-use Rattle.std.specs.List.{ContainsAt as Has, flat_map}
+use Rattle.std.specs.List.{ContainsAt, flat_map}
 use Rattle.std.proofs.lemmas.Bool.{ltb-true, eqb-true, lt-ltb, eq-eqb, not-false, cond-true, cond-false}
 use Rattle.rulings.specs.Points.{Points, Part, union}
 use Rattle.rows.proofs.Putting.{has_first}
@@ -226,17 +226,17 @@ pub record Extended (m : Meaning) (ch : ℕ → ℕ) (test : Test) (k : ℕ) (U 
   pub is : with_candidate m ch k U candidate ≡ y
 
 module _ (m : Meaning) (ch : ℕ → ℕ) (test : Test) (k : ℕ) (U : Points) where
-  candidate_has : (c : ℕ) (y : Points) → Has (candidate_list m ch test k U c) y → (passes m ch test k U c ≡ true) × (with_candidate m ch k U c ≡ y)
+  candidate_has : (c : ℕ) (y : Points) → ContainsAt (candidate_list m ch test k U c) y → (passes m ch test k U c ≡ true) × (with_candidate m ch k U c ≡ y)
   candidate_has c y h = go (passes m ch test k U c) refl h
     where
-      go : (t : Bool) → passes m ch test k U c ≡ t → Has (cond t (with_candidate m ch k U c ∷ []) []) y →
+      go : (t : Bool) → passes m ch test k U c ≡ t → ContainsAt (cond t (with_candidate m ch k U c ∷ []) []) y →
           (passes m ch test k U c ≡ true) × (with_candidate m ch k U c ≡ y)
       go true e q = (e, has_one (with_candidate m ch k U c) y q)
       go false e q = absurd (has_none y q)
 
-  has_candidate : (c : ℕ) → passes m ch test k U c ≡ true → Has (candidate_list m ch test k U c) (with_candidate m ch k U c)
+  has_candidate : (c : ℕ) → passes m ch test k U c ≡ true → ContainsAt (candidate_list m ch test k U c) (with_candidate m ch k U c)
   has_candidate c e =
-      subst (λ (ys : List Points). Has ys (with_candidate m ch k U c)) (sym (cond-true (passes m ch test k U c) (with_candidate m ch k U c ∷ []) [] e))
+      subst (λ (ys : List Points). ContainsAt ys (with_candidate m ch k U c)) (sym (cond-true (passes m ch test k U c) (with_candidate m ch k U c ∷ []) [] e))
       (has_first [] (with_candidate m ch k U c))
 
   pub extend_holds : holds m ch k ≡ true → extend m ch test k U ≡ flat_map (candidate_list m ch test k U) (numbers 0 (2 ^ width m ch k))
@@ -245,24 +245,24 @@ module _ (m : Meaning) (ch : ℕ → ℕ) (test : Test) (k : ℕ) (U : Points) w
   pub extend_empty : holds m ch k ≡ false → extend m ch test k U ≡ U ∷ []
   extend_empty e = cond-false (holds m ch k) _ _ e
 
-  pub extended : (y : Points) → Has (extend m ch test k U) y → ((holds m ch k ≡ false) × (U ≡ y)) ⊎ Extended m ch test k U y
+  pub extended : (y : Points) → ContainsAt (extend m ch test k U) y → ((holds m ch k ≡ false) × (U ≡ y)) ⊎ Extended m ch test k U y
   extended y h = go (holds m ch k) refl
     where
       go : (t : Bool) → holds m ch k ≡ t → ((holds m ch k ≡ false) × (U ≡ y)) ⊎ Extended m ch test k U y
       go true e =
-          let (c, there, q) = joined_has (candidate_list m ch test k U) (numbers 0 (2 ^ width m ch k)) y (subst (λ (ys : List Points). Has ys y) (extend_holds e) h) in
+          let (c, there, q) = joined_has (candidate_list m ch test k U) (numbers 0 (2 ^ width m ch k)) y (subst (λ (ys : List Points). ContainsAt ys y) (extend_holds e) h) in
           let (pass, same) = candidate_has c y q in
           inr (record { candidate = c; small = let (_, b) = numbers_has 0 (2 ^ width m ch k) c there in omega arith; passed = pass; is = same })
-      go false e = inl (e, has_one U y (subst (λ (ys : List Points). Has ys y) (extend_empty e) h))
+      go false e = inl (e, has_one U y (subst (λ (ys : List Points). ContainsAt ys y) (extend_empty e) h))
 
-  pub has_extended : (c : ℕ) → holds m ch k ≡ true → c < 2 ^ width m ch k → passes m ch test k U c ≡ true → Has (extend m ch test k U) (with_candidate m ch k U c)
+  pub has_extended : (c : ℕ) → holds m ch k ≡ true → c < 2 ^ width m ch k → passes m ch test k U c ≡ true → ContainsAt (extend m ch test k U) (with_candidate m ch k U c)
   has_extended c e h p =
-      subst (λ (ys : List Points). Has ys (with_candidate m ch k U c)) (sym (extend_holds e))
+      subst (λ (ys : List Points). ContainsAt ys (with_candidate m ch k U c)) (sym (extend_holds e))
       (has_joined (candidate_list m ch test k U) (numbers 0 (2 ^ width m ch k)) c (with_candidate m ch k U c) (has_numbers 0 (2 ^ width m ch k) c (omega arith) (omega arith)) (has_candidate c p))
 
 module _ (m : Meaning) (l : Lawful m) (ch : ℕ → ℕ) (test : Test) where
   -- an extension keeps the part below
-  extended_below : (k : ℕ) (U y : Points) → Filled m ch k U → Has (extend m ch test k U) y → below_chapter ch k y ≡ U
+  extended_below : (k : ℕ) (U y : Points) → Filled m ch k U → ContainsAt (extend m ch test k U) y → below_chapter ch k y ≡ U
   extended_below k U y f h = go (extended m ch test k U y h)
     where
       go : ((holds m ch k ≡ false) × (U ≡ y)) ⊎ Extended m ch test k U y → below_chapter ch k y ≡ U
@@ -275,8 +275,8 @@ module _ (m : Meaning) (l : Lawful m) (ch : ℕ → ℕ) (test : Test) where
       D : Points
       D = points_of m ch k
 
-      same : (c d : ℕ) (y : Points) → Has (numbers 0 (2 ^ width m ch k)) c → Has (numbers 0 (2 ^ width m ch k)) d →
-          Has (candidate_list m ch test k U c) y → Has (candidate_list m ch test k U d) y → c ≡ d
+      same : (c d : ℕ) (y : Points) → ContainsAt (numbers 0 (2 ^ width m ch k)) c → ContainsAt (numbers 0 (2 ^ width m ch k)) d →
+          ContainsAt (candidate_list m ch test k U c) y → ContainsAt (candidate_list m ch test k U d) y → c ≡ d
       same c d y hc hd yc yd =
           let (_, bc) = numbers_has 0 (2 ^ width m ch k) c hc in
           let (_, bd) = numbers_has 0 (2 ^ width m ch k) d hd in
@@ -299,7 +299,7 @@ module _ (m : Meaning) (l : Lawful m) (ch : ℕ → ℕ) (test : Test) where
 
   module _ (tells : Tells m ch test) where
     -- every listed set is a filling
-    pub fillings_sound : (k : ℕ) (x : Points) → Has (fillings m ch test k) x → Filled m ch k x
+    pub fillings_sound : (k : ℕ) (x : Points) → ContainsAt (fillings m ch test k) x → Filled m ch k x
     unfolding fillings
     fillings_sound zero x h =
         record {
@@ -317,10 +317,10 @@ module _ (m : Meaning) (l : Lawful m) (ch : ℕ → ℕ) (test : Test) where
             (with_filled m l ch k U f s.candidate (passes_stable m l ch k U f s.candidate test tells s.passed))
 
     -- every filling is listed
-    pub fillings_complete : (k : ℕ) (x : Points) → Filled m ch k x → Has (fillings m ch test k) x
+    pub fillings_complete : (k : ℕ) (x : Points) → Filled m ch k x → ContainsAt (fillings m ch test k) x
     unfolding fillings
     fillings_complete zero x f =
-        subst (Has (none ∷ [])) (same_points none x (λ a e. false_is_not_true e) (λ a e. let q = f.lower a e in absurd (omega arith)))
+        subst (ContainsAt (none ∷ [])) (same_points none x (λ a e. false_is_not_true e) (λ a e. let q = f.lower a e in absurd (omega arith)))
         (has_first [] none)
     fillings_complete (suc k) x f =
         has_joined (extend m ch test k) (fillings m ch test k) U x (fillings_complete k U (lower_filled m l ch k x f)) (go (holds m ch k) refl)
@@ -361,11 +361,11 @@ module _ (m : Meaning) (l : Lawful m) (ch : ℕ → ℕ) (test : Test) where
         passed : passes m ch test k U c ≡ true
         passed = ap (test k U) is ∙ (tells k x (filled_inside m l ch (suc k) x f)).1 (f.stable k (omega arith))
 
-        go : (t : Bool) → holds m ch k ≡ t → Has (extend m ch test k U) x
-        go true e = subst (Has (extend m ch test k U)) whole (has_extended m ch test k U c e small passed)
+        go : (t : Bool) → holds m ch k ≡ t → ContainsAt (extend m ch test k U) x
+        go true e = subst (ContainsAt (extend m ch test k U)) whole (has_extended m ch test k U c e small passed)
         go false e =
-            subst (λ (ys : List Points). Has ys x) (sym (extend_empty m ch test k U e))
-            (subst (Has (U ∷ [])) (empty_filled m l ch k x f e) (has_first [] U))
+            subst (λ (ys : List Points). ContainsAt ys x) (sym (extend_empty m ch test k U e))
+            (subst (ContainsAt (U ∷ [])) (empty_filled m l ch k x f e) (has_first [] U))
 
     -- and no set twice
     pub fillings_distinct : (k : ℕ) → Distinct (fillings m ch test k)

@@ -1,6 +1,6 @@
 -- The levels of the walk: the chapters that hold a point.
 use Rattle.std.proofs.Common.{◌≡◌, ℕ, zero, suc, ◌+◌, ◌<◌, ◌≤◌, Bool, true, false, cond, ◌⊎◌, List, [], ◌∷◌, ◌++◌, length, get_or, filter, sym, refl, ap, ◌∙◌, subst, inl, inr, add-one, arith}
-use Rattle.std.specs.List.{ContainsAt as Has}
+use Rattle.std.specs.List.{ContainsAt}
 use Rattle.std.proofs.lemmas.List.Elements.{filter-append}
 use Rattle.std.proofs.ByRecursion.{has_get_or}
 use Rattle.std.proofs.lemmas.List.{append-nil}
@@ -14,28 +14,28 @@ use Rattle.semantics.proofs.Tests.{false_is_not_true}
 use Rattle.semantics.proofs.Joined.{has_none, has_cases, length_numbers, numbers_has, has_numbers}
 use Rattle.semantics.proofs.Fillings.{no_points}
 
-has_kept_by : {X : Type 0} (p : X → Bool) (xs : List X) (x : X) → Has xs x → p x ≡ true → Has (filter p xs) x
+has_kept_by : {X : Type 0} (p : X → Bool) (xs : List X) (x : X) → ContainsAt xs x → p x ≡ true → ContainsAt (filter p xs) x
 has_kept_by p [] x h e = absurd (has_none x h)
 has_kept_by {X} p (y ∷ xs) x h e = go (has_cases xs y x h) (p y) refl (λ q. has_kept_by p xs x q e)
   where
-    go : (y ≡ x) ⊎ Has xs x → (t : Bool) → p y ≡ t → (Has xs x → Has (filter p xs) x) → Has (cond t (y ∷ filter p xs) (filter p xs)) x
-    go (inl i) true q ih = subst (Has (y ∷ filter p xs)) i (has_first (filter p xs) y)
+    go : (y ≡ x) ⊎ ContainsAt xs x → (t : Bool) → p y ≡ t → (ContainsAt xs x → ContainsAt (filter p xs) x) → ContainsAt (cond t (y ∷ filter p xs) (filter p xs)) x
+    go (inl i) true q ih = subst (ContainsAt (y ∷ filter p xs)) i (has_first (filter p xs) y)
     go (inl i) false q ih = false_is_not_true (sym q ∙ (ap p i ∙ e))
     go (inr l) true q ih = has_later (filter p xs) y x (ih l)
     go (inr l) false q ih = ih l
 
-kept_by_has : {X : Type 0} (p : X → Bool) (xs : List X) (x : X) → Has (filter p xs) x → Has xs x × (p x ≡ true)
+kept_by_has : {X : Type 0} (p : X → Bool) (xs : List X) (x : X) → ContainsAt (filter p xs) x → ContainsAt xs x × (p x ≡ true)
 kept_by_has p [] x h = absurd (has_none x h)
 kept_by_has {X} p (y ∷ xs) x h = go (p y) refl h (λ q. kept_by_has p xs x q)
   where
-    later : Has xs x × (p x ≡ true) → Has (y ∷ xs) x × (p x ≡ true)
+    later : ContainsAt xs x × (p x ≡ true) → ContainsAt (y ∷ xs) x × (p x ≡ true)
     later (l, e) = (has_later xs y x l, e)
 
-    first : p y ≡ true → (y ≡ x) ⊎ Has (filter p xs) x → (Has (filter p xs) x → Has xs x × (p x ≡ true)) → Has (y ∷ xs) x × (p x ≡ true)
-    first q (inl i) ih = (subst (Has (y ∷ xs)) i (has_first xs y), ap p (sym i) ∙ q)
+    first : p y ≡ true → (y ≡ x) ⊎ ContainsAt (filter p xs) x → (ContainsAt (filter p xs) x → ContainsAt xs x × (p x ≡ true)) → ContainsAt (y ∷ xs) x × (p x ≡ true)
+    first q (inl i) ih = (subst (ContainsAt (y ∷ xs)) i (has_first xs y), ap p (sym i) ∙ q)
     first q (inr l) ih = later (ih l)
 
-    go : (t : Bool) → p y ≡ t → Has (cond t (y ∷ filter p xs) (filter p xs)) x → (Has (filter p xs) x → Has xs x × (p x ≡ true)) → Has (y ∷ xs) x × (p x ≡ true)
+    go : (t : Bool) → p y ≡ t → ContainsAt (cond t (y ∷ filter p xs) (filter p xs)) x → (ContainsAt (filter p xs) x → ContainsAt xs x × (p x ≡ true)) → ContainsAt (y ∷ xs) x × (p x ≡ true)
     go true q l ih = first q (has_cases (filter p xs) y x l) ih
     go false q l ih = later (ih l)
 
@@ -61,7 +61,7 @@ module _ (m : Meaning) (ch : ℕ → ℕ) where
   levels_empty n k e = cond-false (holds m ch k) _ _ e
 
 -- the chapter of point 0 is a level
-pub first_level : (m : Meaning) → Lawful m → (ch : ℕ → ℕ) → Sixteen ch → Has (levels m ch) (ch 0)
+pub first_level : (m : Meaning) → Lawful m → (ch : ℕ → ℕ) → Sixteen ch → ContainsAt (levels m ch) (ch 0)
 unfolding levels
 first_level m l ch few =
     has_kept_by (holds m ch) (numbers 0 16) (ch 0) (has_numbers 0 16 (ch 0) (omega arith) (let h = few 0 in omega arith)) (go (holds m ch (ch 0)) refl)

@@ -1,7 +1,7 @@
 -- The walk completes every set with stable parts once, and makes as many tries as the effort says.
 use Rattle.std.proofs.Common.{◌≡◌, ℕ, zero, suc, ◌+◌, ◌*◌, ◌^◌, ◌<◌, Bool, true, false, cond, not, ◌&&◌, eqb, List, [], ◌∷◌, ◌++◌, length, sym, refl, ap, ◌∙◌, subst, ap₂, suc-mul, mul-zero, zero-mul, arith, length-append}
 use mathlib.Core.Path.{fun_ext}
-use Rattle.std.specs.List.{ContainsAt as Has, flat_map}
+use Rattle.std.specs.List.{ContainsAt, flat_map}
 use Rattle.std.proofs.lemmas.Bool.{cond-true, cond-false}
 use Rattle.rulings.specs.Points.{Points}
 use Rattle.rows.proofs.Pairwise.{to_places}
@@ -102,13 +102,13 @@ module _ (m : Meaning) (ch : ℕ → ℕ) (test : Test) where
       ∙ (results_fill n (suc k) ∙ ap (fillings m ch test) (omega arith))))
 
   -- a walk with a level completes the fillings of all chapters
-  completes_fillings : (k : ℕ) → Has (levels m ch) k → completed m ch (walk m ch test) ≡ fillings m ch test 16
+  completes_fillings : (k : ℕ) → ContainsAt (levels m ch) k → completed m ch (walk m ch test) ≡ fillings m ch test 16
   completes_fillings k h =
       at (levels m ch) h ∙ (ap (λ (ks : List ℕ). results m ch test ks none) (levels_all m ch)
       ∙ (sym (joined_only (results m ch test (levels_from m ch 16 0)) none)
       ∙ (ap (flat_map (results m ch test (levels_from m ch 16 0))) (sym (fillings_zero m ch test)) ∙ results_fill 16 0)))
     where
-      at : (ks : List ℕ) → Has ks k → completed m ch (tries m ch test ks none) ≡ results m ch test ks none
+      at : (ks : List ℕ) → ContainsAt ks k → completed m ch (tries m ch test ks none) ≡ results m ch test ks none
       at [] q = absurd (has_none k q)
       at (j ∷ ks) q = tries_complete j ks none
 

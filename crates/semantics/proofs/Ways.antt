@@ -1,6 +1,6 @@
 -- The fillings as rulings in row order, and the number of ways to fill the lower chapters.
 use Rattle.std.proofs.Common.{◌≡◌, ℕ, zero, suc, ◌+◌, ◌*◌, ◌^◌, ◌<◌, cond, eqb, ◌⊎◌, List, [], ◌∷◌, map, length, sym, refl, ap, ◌∙◌, subst, ap₂, inl, inr, arith}
-use Rattle.std.specs.List.{ContainsAt as Has}
+use Rattle.std.specs.List.{ContainsAt}
 use Rattle.std.proofs.ByRecursion.{all-has}
 use Rattle.std.proofs.lemmas.List.{length-map}
 use Rattle.rulings.specs.Points.{Points}
@@ -24,8 +24,8 @@ pub record Sorted {A : Type 0} (before : A → A → Type 0) (xs : List A) : Typ
   pub rows : List A
   pub strict : ByPlaces before rows
   pub as_long : length rows ≡ length xs
-  pub only : (x : A) → Has rows x → Has xs x
-  pub each : (x : A) → Has xs x → Has rows x
+  pub only : (x : A) → ContainsAt rows x → ContainsAt xs x
+  pub each : (x : A) → ContainsAt xs x → ContainsAt rows x
 
 -- a list without repetition is sorted by putting in one element after another
 pub sorted : {A : Type 0} (before : A → A → Type 0) → StrictTotal before → (xs : List A) → Distinct xs → Sorted before xs
@@ -44,17 +44,17 @@ sorted {A} before order (x ∷ xs) d = go (sorted before order xs d.1)
           only = λ y h.
               elim (put_adds_only before x s.rows ys put y h) [
                 | inl there ↦ has_later xs x y (s.only y there)
-                | inr e ↦ subst (Has (x ∷ xs)) e (has_first xs x)
+                | inr e ↦ subst (ContainsAt (x ∷ xs)) e (has_first xs x)
               ];
           each = λ y h.
               elim (has_cases xs x y h) [
-                | inl e ↦ subst (Has ys) e (put_has_row before x s.rows ys put)
+                | inl e ↦ subst (ContainsAt ys) e (put_has_row before x s.rows ys put)
                 | inr there ↦ put_keeps before x s.rows ys put y (s.each y there)
               ];
         }
 
 module _ {A B : Type 0} (f : A → B) where
-  pub map_has : (xs : List A) (y : B) → Has (map f xs) y → (x : A) × Has xs x × (f x ≡ y)
+  pub map_has : (xs : List A) (y : B) → ContainsAt (map f xs) y → (x : A) × ContainsAt xs x × (f x ≡ y)
   map_has [] y h = absurd (has_none y h)
   map_has (x ∷ xs) y h =
       elim (has_cases (map f xs) (f x) y h) [
@@ -62,15 +62,15 @@ module _ {A B : Type 0} (f : A → B) where
         | inr l ↦ let (z, there, is) = map_has xs y l in (z, has_later xs x z there, is)
       ]
 
-  pub has_map : (xs : List A) (x : A) → Has xs x → Has (map f xs) (f x)
+  pub has_map : (xs : List A) (x : A) → ContainsAt xs x → ContainsAt (map f xs) (f x)
   has_map [] x h = absurd (has_none x h)
   has_map (z ∷ xs) x h =
       elim (has_cases xs z x h) [
-        | inl e ↦ subst (λ (w : A). Has (map f (z ∷ xs)) (f w)) e (has_first (map f xs) (f z))
+        | inl e ↦ subst (λ (w : A). ContainsAt (map f (z ∷ xs)) (f w)) e (has_first (map f xs) (f z))
         | inr l ↦ has_later (map f xs) (f z) (f x) (has_map xs x l)
       ]
 
-  distinct_map : (xs : List A) → ((x y : A) → Has xs x → Has xs y → f x ≡ f y → x ≡ y) → Distinct xs → Distinct (map f xs)
+  distinct_map : (xs : List A) → ((x y : A) → ContainsAt xs x → ContainsAt xs y → f x ≡ f y → x ≡ y) → Distinct xs → Distinct (map f xs)
   distinct_map [] one d = tt
   distinct_map (x ∷ xs) one d = (
     all_of_has (λ (y : B). f x ≡ y → ⊥) (map f xs)
@@ -95,7 +95,7 @@ module _ (m : Meaning) (l : Lawful m) (ch : ℕ → ℕ) where
     s.rows,
     record {
       only = λ r h. only r (map_has ruling_of xs r (s.only r h));
-      each = λ r f. s.each r (subst (Has (map ruling_of xs)) (ruling_of_points r)
+      each = λ r f. s.each r (subst (ContainsAt (map ruling_of xs)) (ruling_of_points r)
           (has_map ruling_of xs (has r) (fillings_complete m l ch test tells k (has r) (fills_filled k r f))));
       in_order = s.strict;
     },
@@ -105,24 +105,24 @@ module _ (m : Meaning) (l : Lawful m) (ch : ℕ → ℕ) where
       xs : List Points
       xs = fillings m ch test k
 
-      filled : (x : Points) → Has xs x → Filled m ch k x
+      filled : (x : Points) → ContainsAt xs x → Filled m ch k x
       filled = fillings_sound m l ch test tells k
 
-      is : (x : Points) → Has xs x → has (ruling_of x) ≡ x
+      is : (x : Points) → ContainsAt xs x → has (ruling_of x) ≡ x
       is x h = filled_ruling k x (filled x h)
 
       s : Sorted Precedes (map ruling_of xs)
       s = sorted Precedes row_order (map ruling_of xs)
           (distinct_map ruling_of xs (λ x y hx hy e. sym (is x hx) ∙ (ap has e ∙ is y hy)) (fillings_distinct m l ch test tells k))
 
-      only : (r : Ruling) → (x : Points) × Has xs x × (ruling_of x ≡ r) → Fills m ch k r
+      only : (r : Ruling) → (x : Points) × ContainsAt xs x × (ruling_of x ≡ r) → Fills m ch k r
       only r (x, there, e) = filled_fills k r (subst (Filled m ch k) (sym (is x there) ∙ ap has e) (filled x there))
 
 -- ---- the ways and the effort are determined
 
 -- two lists in strict order with the same elements are equally long
 same_length : {A : Type 0} (before : A → A → Type 0) → StrictTotal before → (xs ys : List A) → Pairwise before xs → Pairwise before ys →
-    ((x : A) → Has xs x → Has ys x) → ((x : A) → Has ys x → Has xs x) → length xs ≡ length ys
+    ((x : A) → ContainsAt xs x → ContainsAt ys x) → ((x : A) → ContainsAt ys x → ContainsAt xs x) → length xs ≡ length ys
 same_length before order [] [] p q f g = refl
 same_length before order [] (y ∷ ys) p q f g = absurd (has_none y (g y (has_first ys y)))
 same_length before order (x ∷ xs) [] p q f g = absurd (has_none x (f x (has_first xs x)))
@@ -131,7 +131,7 @@ same_length {A} before order (x ∷ xs) (y ∷ ys) p q f g =
     (λ z h. tail ys y x same z (all-has (before x) xs z p.0 h) (has_cases ys y z (f z (has_later xs x z h))))
     (λ z h. tail xs x y (sym same) z (all-has (before y) ys z q.0 h) (has_cases xs x z (g z (has_later ys y z h)))))
   where
-    heads : (y ≡ x) ⊎ Has ys x → (x ≡ y) ⊎ Has xs y → x ≡ y
+    heads : (y ≡ x) ⊎ ContainsAt ys x → (x ≡ y) ⊎ ContainsAt xs y → x ≡ y
     heads (inl e) h = sym e
     heads (inr l) (inl e) = e
     heads (inr l) (inr r) = absurd (order.irreflexive x (order.transitive x y x (all-has (before x) xs y p.0 r) (all-has (before y) ys x q.0 l)))
@@ -139,7 +139,7 @@ same_length {A} before order (x ∷ xs) (y ∷ ys) p q f g =
     same : x ≡ y
     same = heads (has_cases ys y x (f x (has_first xs x))) (has_cases xs x y (g y (has_first ys y)))
 
-    tail : (zs : List A) (w v : A) → v ≡ w → (z : A) → before v z → (w ≡ z) ⊎ Has zs z → Has zs z
+    tail : (zs : List A) (w v : A) → v ≡ w → (z : A) → before v z → (w ≡ z) ⊎ ContainsAt zs z → ContainsAt zs z
     tail zs w v e z b (inl i) = absurd (order.irreflexive z (subst (λ (u : A). before u z) (e ∙ i) b))
     tail zs w v e z b (inr h) = h
 
@@ -166,13 +166,13 @@ effort_unique m ch = effort_is_one m ch
 
 -- rows in strict order that are the sets with all parts stable are the listing
 pub listing_of : (m : Meaning) (ch : ℕ → ℕ) (xs : List Points) → AllOnce (λ x. (k : ℕ) → k < 16 → PartStable m ch x k) xs →
-    (rows : List Ruling) → ByPlaces Precedes rows → ((r : Ruling) → Has rows r → Has xs (has r)) →
-    ((x : Points) → Has xs x → (r : Ruling) × Has rows r × (has r ≡ x)) → AllInRowOrder (AllPartsStable m ch) rows
+    (rows : List Ruling) → ByPlaces Precedes rows → ((r : Ruling) → ContainsAt rows r → ContainsAt xs (has r)) →
+    ((x : Points) → ContainsAt xs x → (r : Ruling) × ContainsAt rows r × (has r ≡ x)) → AllInRowOrder (AllPartsStable m ch) rows
 listing_of m ch xs all rows strict only each =
     record {
       only = λ r h. all.only (has r) (only r h);
       each = λ r q.
           let (s, there, is) = each (has r) (all.each (has r) q) in
-          subst (Has rows) (same_points s r (λ a _. ap (λ (x : Points). x a) is)) there;
+          subst (ContainsAt rows) (same_points s r (λ a _. ap (λ (x : Points). x a) is)) there;
       in_order = strict;
     }

@@ -1,6 +1,6 @@
 -- Listings: all stable rulings, chapter by chapter, and the effort of finding them.
 use Rattle.std.specs.Prelude.{◌≡◌, ℕ, zero, suc, ◌+◌, ◌*◌, ◌^◌, ◌<◌, Bool, true, cond, List, length, ◌==◌, nat_eq, slice_index_or}
-use Rattle.std.specs.List.{ContainsAt as Has}
+use Rattle.std.specs.List.{ContainsAt}
 use Rattle.rulings.specs.Points.{Points}
 use Rattle.rulings.specs.Rulings.{has}
 use Rattle.rulings.specs.Order.{Precedes}
@@ -19,8 +19,8 @@ width m ch k = count_below m.size (λ a. nat_eq (ch a) k)
 
 -- the rows are all rulings with a property, each once, in row order
 pub record AllInRowOrder (Q : Ruling → Type 0) (rows : List Ruling) : Type 0 where
-  pub only : (r : Ruling) → Has rows r → Q r
-  pub each : (r : Ruling) → Q r → Has rows r
+  pub only : (r : Ruling) → ContainsAt rows r → Q r
+  pub each : (r : Ruling) → Q r → ContainsAt rows r
   pub in_order : (i j : ℕ) (d : Ruling) → i < j → j < length rows → Precedes (slice_index_or rows i d) (slice_index_or rows j d)
 
 -- a ruling fills the chapters lower than k with stable parts, and has no other point

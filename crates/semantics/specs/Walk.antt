@@ -1,6 +1,6 @@
 -- The walk that finds all stable rulings: every try in order, and the rulings that the tries complete.
 use Rattle.std.specs.Prelude.{◌≡◌, ℕ, zero, suc, ◌^◌, ◌<◌, Bool, true, false, cond, not, ◌&&◌, ◌↔◌, List, [], ◌∷◌, length, filter, ◌==◌, ◌≢◌, nat_lt, slice_index_or}
-use Rattle.std.specs.List.{ContainsAt as Has, flat_map}
+use Rattle.std.specs.List.{ContainsAt, flat_map}
 use Rattle.rulings.specs.Points.{Points, Part, union}
 use Rattle.rulings.specs.Rulings.{digit}
 use Rattle.semantics.specs.Meaning.{Meaning, Lawful}
@@ -106,8 +106,8 @@ TestExists = (m : Meaning) → Lawful m → (ch : ℕ → ℕ) → (test : Test)
 
 -- the list is all sets with a property, each once
 pub record AllOnce (Q : Points → Type 0) (xs : List Points) : Type 0 where
-  pub only : (x : Points) → Has xs x → Q x
-  pub each : (x : Points) → Q x → Has xs x
+  pub only : (x : Points) → ContainsAt xs x → Q x
+  pub each : (x : Points) → Q x → ContainsAt xs x
   pub once : (i j : ℕ) (d : Points) → i < j → j < length xs → slice_index_or xs i d ≢ slice_index_or xs j d
 
 -- the walk completes all sets whose every part is stable in its chapter, each once

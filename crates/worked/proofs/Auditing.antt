@@ -1,6 +1,6 @@
 -- Upward readings by computing.
 use Rattle.std.proofs.Common.{◌≡◌, ℕ, ◌-◌, ◌<◌, Bool, true, false, not, ◌&&◌, ◌||◌, eqb, List, length, take, drop, Ok, Err, Result, sym, refl, ap, ◌∙◌, subst, ap₂, subst₂, inl, inr, arith, eqb-true}
-use Rattle.std.specs.List.{ContainsAt as Has}
+use Rattle.std.specs.List.{ContainsAt}
 use Rattle.std.proofs.lemmas.List.{length-take}
 use Rattle.rows.specs.Rows.{StrictlyInOrder}
 use Rattle.rows.proofs.Same.{same_rows}
@@ -86,19 +86,19 @@ module _ (m : Meaning) (ch : ℕ → ℕ) where
             ap (λ (d : ℕ). record { drop = d; reader = r.reader; read = r.read })
             (eqb-true r.drop (ch r.read - ch r.reader) (and_both (upward m ch r.reader r.read) _ e).1)
 
-        only : (r : UpwardReading) → Has rows r → (a : ℕ) × (b : ℕ) × (upward m ch a b ≡ true) × (r ≡ reading_row ch a b)
+        only : (r : UpwardReading) → ContainsAt rows r → (a : ℕ) × (b : ℕ) × (upward m ch a b ≡ true) × (r ≡ reading_row ch a b)
         only r there =
             let e = all_use is_upward rows each_upward r there in
             (r.reader, r.read, (and_both (upward m ch r.reader r.read) _ e).0, row_is r e)
 
-        each : (a b : ℕ) → upward m ch a b ≡ true → Has rows (reading_row ch a b)
+        each : (a b : ℕ) → upward m ch a b ≡ true → ContainsAt rows (reading_row ch a b)
         each a b u =
             let i = upward_inside l a b u in
             let c = every_below_use m.size (λ e. every_below m.size (λ f. not (upward m ch e f) || any (is_row e f) rows)) (and_both (all is_upward rows) _ h).1 a i.0 in
             let d = every_below_use m.size (λ f. not (upward m ch a f) || any (is_row a f) rows) c b i.1 in
             let (r, there, e) = any_has (is_row a b) rows (implies_use _ _ d u) in
             let q = and_both (eqb r.reader a) (eqb r.read b) e in
-            subst (Has rows)
+            subst (ContainsAt rows)
             (row_is r (all_use is_upward rows each_upward r there) ∙ ap₂ (reading_row ch) (eqb-true r.reader a q.0) (eqb-true r.read b q.1))
             there
 
@@ -109,10 +109,10 @@ module _ (m : Meaning) (ch : ℕ → ℕ) where
         same xs xs_all =
             same_rows AuditedBefore audit_order xs rows xs_all.in_order ordered (λ s. (through xs rows xs_all audit s, through rows xs audit xs_all s))
           where
-            through : (ys zs : List UpwardReading) → AllUpward m ch ys → AllUpward m ch zs → (s : UpwardReading) → Has ys s → Has zs s
+            through : (ys zs : List UpwardReading) → AllUpward m ch ys → AllUpward m ch zs → (s : UpwardReading) → ContainsAt ys s → ContainsAt zs s
             through ys zs p q s there =
                 let (a, b, u, e) = p.upward_only s there in
-                subst (Has zs) (sym e) (q.each_there a b u)
+                subst (ContainsAt zs) (sym e) (q.each_there a b u)
 
         Left : ℕ → Type 0
         Left n = (take n left ≡ rows) × (drop n left ≡ drop n found)

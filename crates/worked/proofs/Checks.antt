@@ -1,7 +1,7 @@
 -- Checks that compute, and what they say.
 use Rattle.std.proofs.Common.{◌≡◌, ℕ, zero, suc, ◌<◌, Bool, true, false, not, ◌&&◌, ◌||◌, eqb, ltb, leb, ◌⊎◌, List, [], ◌∷◌, sym, refl, ◌∙◌, subst, inl, inr, arith, ltb-true, eq-eqb, eqb-true, leb-true}
 use mathlib.Core.Path.{fun_ext}
-use Rattle.std.specs.List.{ContainsAt as Has}
+use Rattle.std.specs.List.{ContainsAt}
 use Rattle.std.proofs.lemmas.Bool.{cases_lt}
 use Rattle.rulings.specs.Points.{Points, Part, listed}
 use Rattle.semantics.specs.Meaning.{Meaning, Lawful}
@@ -24,11 +24,11 @@ abbrev pub all : {X : Type 0} → (X → Bool) → List X → Bool
 all test [] = true
 all test (x ∷ xs) = test x && all test xs
 
-pub all_use : {X : Type 0} (test : X → Bool) (xs : List X) → all test xs ≡ true → (x : X) → Has xs x → test x ≡ true
+pub all_use : {X : Type 0} (test : X → Bool) (xs : List X) → all test xs ≡ true → (x : X) → ContainsAt xs x → test x ≡ true
 all_use test [] h x q = absurd (has_none x q)
 all_use {X} test (y ∷ ys) h x q = go (and_both _ _ h) (has_cases ys y x q) (all_use test ys)
   where
-    go : (test y ≡ true) × (all test ys ≡ true) → (y ≡ x) ⊎ Has ys x → (all test ys ≡ true → (x : X) → Has ys x → test x ≡ true) → test x ≡ true
+    go : (test y ≡ true) × (all test ys ≡ true) → (y ≡ x) ⊎ ContainsAt ys x → (all test ys ≡ true → (x : X) → ContainsAt ys x → test x ≡ true) → test x ≡ true
     go p (inl e) ih = subst (λ (z : X). test z ≡ true) e p.0
     go p (inr there) ih = ih p.1 x there
 

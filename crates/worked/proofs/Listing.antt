@@ -1,6 +1,6 @@
 -- Listings by computing the walk.
 use Rattle.std.proofs.Common.{◌≡◌, ℕ, zero, suc, ◌+◌, ◌^◌, ◌<◌, ◌≤◌, Bool, true, false, cond, ◌&&◌, eqb, ltb, leb, List, [], ◌∷◌, map, length, take, drop, Ok, Err, Result, sym, refl, ap, ◌∙◌, subst, ap₂, inl, inr, arith, ltb-true, eqb-true, leb-true}
-use Rattle.std.specs.List.{ContainsAt as Has, AllByRecursion as All}
+use Rattle.std.specs.List.{ContainsAt, AllByRecursion}
 use Rattle.std.proofs.lemmas.List.{length-map, length-take}
 use Rattle.rulings.specs.Points.{Points, listed}
 use Rattle.rulings.specs.Rulings.{digit, byte, has}
@@ -73,7 +73,7 @@ rise_use (s ∷ ss) b h =
     let q = and_both (all (λ t. ltb (worth s) (worth t)) ss) (rise ss) h in
     (later p.0 ss p.1 q.0, rise_use ss p.1 q.1)
   where
-    later : byte_fits s ≡ true → (ts : List (List ℕ)) → all byte_fits ts ≡ true → all (λ t. ltb (worth s) (worth t)) ts ≡ true → All (Precedes (row s)) (map row ts)
+    later : byte_fits s ≡ true → (ts : List (List ℕ)) → all byte_fits ts ≡ true → all (λ t. ltb (worth s) (worth t)) ts ≡ true → AllByRecursion (Precedes (row s)) (map row ts)
     later f [] c e = tt
     later f (t ∷ ts) c e =
         let p = and_both (byte_fits t) (all byte_fits ts) c in
@@ -150,7 +150,7 @@ module _ (m : Meaning) (ch : ℕ → ℕ) where
     once : AllOnce (λ x. (k : ℕ) → k < 16 → PartStable m ch x k) computed
     once = walk_completes m ch (stable_test m ch) l few (stable_test_tells m l ch)
 
-    computed_within : (x : Points) → Has computed x → Within m.size x
+    computed_within : (x : Points) → ContainsAt computed x → Within m.size x
     computed_within x h a e =
         closure_inside (chapter m ch (ch a) (below_chapter ch (ch a) x) (below_chapter ch (ch a) x))
         (chapter_lawful m l ch (ch a) (below_chapter ch (ch a) x) (below_chapter ch (ch a) x))
@@ -170,7 +170,7 @@ module _ (m : Meaning) (ch : ℕ → ℕ) where
         counted : Effort m ch effort
         counted = subst (Effort m ch) (eqb-true _ effort c.tries) (walk_effort m ch (stable_test m ch) l (stable_test_tells m l ch))
 
-        set_is : (x : Points) (s : List ℕ) → Has computed x → Has sets s → is_set x s ≡ true → has (row s) ≡ x
+        set_is : (x : Points) (s : List ℕ) → ContainsAt computed x → ContainsAt sets s → is_set x s ≡ true → has (row s) ≡ x
         set_is x s hx hs e =
             let w = within_use m.size s (all_use (within m.size) sets c.inside s hs) in
             ruling_of_same (listed s) (λ a q. let i = w a q in let f = l.few_points in omega arith)
@@ -183,7 +183,7 @@ module _ (m : Meaning) (ch : ℕ → ℕ) where
             (λ r q.
             let (s, there, e) = map_has row sets r q in
             let (x, hx, f) = any_has (λ y. is_set y s) computed (all_use (λ t. any (λ y. is_set y t) computed) sets c.each s there) in
-            subst (Has computed) (sym (set_is x s hx there f) ∙ ap has e) hx)
+            subst (ContainsAt computed) (sym (set_is x s hx there f) ∙ ap has e) hx)
             (λ x hx.
             let (s, there, f) = any_has (is_set x) sets (all_use (λ y. any (is_set y) sets) computed c.only x hx) in
             (row s, has_map row sets s there, set_is x s hx there f))
