@@ -24,20 +24,20 @@ module _ (m : Meaning) (x X : Points) (c : IsClosure m x X) where
   stable_else : (r : Bool) → (r ≡ true) ↔ Part x X → r ≡ false → (r ≡ true) ↔ Stable m x
   stable_else r d e = (λ f. false_is_not_true (sym e ∙ f), λ s. d.1 (parts_of s).0)
 
-pub returns-then-is-part-of : goal.returns-then-is-part-of
-returns-then-is-part-of g c =
+pub returns-then-is_part_of : goal.returns-then-is_part_of
+returns-then-is_part_of g c =
     let m = g.B.Book.meaning c.args.book.now in
     let w = restricted m (has c.args.points) (has c.args.lower) (has c.args.lower) in
     let part = has c.args.part in
     let X = has c.closure-closure.result in
-    stable_then w part X (subst (λ (v : Meaning). IsClosure v part X) (c.of_chapter.ensures m) c.closure-closure.ensures) c.is-part-of-then-is-part-of.result
-    (c.is-part-of.ensures.0 c.if-is-part-of.true) c.is-part-of-then-is-part-of.ensures
+    stable_then w part X (subst (λ (v : Meaning). IsClosure v part X) (c.of_chapter.ensures m) c.closure-closure.ensures) c.is_part_of-then-is_part_of.result
+    (c.is_part_of.ensures.0 c.if-is_part_of.true) c.is_part_of-then-is_part_of.ensures
 
-pub returns-else-is-part-of : goal.returns-else-is-part-of
-returns-else-is-part-of g c =
+pub returns-else-is_part_of : goal.returns-else-is_part_of
+returns-else-is_part_of g c =
     let m = g.B.Book.meaning c.args.book.now in
     let w = restricted m (has c.args.points) (has c.args.lower) (has c.args.lower) in
     let part = has c.args.part in
     let X = has c.closure-closure.result in
-    stable_else w part X (subst (λ (v : Meaning). IsClosure v part X) (c.of_chapter.ensures m) c.closure-closure.ensures) c.is-part-of.result
-    c.is-part-of.ensures c.if-is-part-of.false
+    stable_else w part X (subst (λ (v : Meaning). IsClosure v part X) (c.of_chapter.ensures m) c.closure-closure.ensures) c.is_part_of.result
+    c.is_part_of.ensures c.if-is_part_of.false

@@ -12,13 +12,13 @@ loop-turn-init g c =
     let m = g.B.Book.meaning b in
     turn_none (seen m v) (seen_lawful m (g.met.B.Book.lawful b) v) (has c.args.y) (has c.empty-x.result) c.empty-x.ensures
 
-pub returns-then-is-part-of : goal.returns-then-is-part-of
-returns-then-is-part-of g c =
+pub returns-then-is_part_of : goal.returns-then-is_part_of
+returns-then-is_part_of g c =
     let b = c.args.book.now in
     let v = c.args.view in
     let m = g.B.Book.meaning b in
     turn_settled (seen m v) (seen_lawful m (g.met.B.Book.lawful b) v) (has c.args.y) c.loop-turn.-turn (has c.loop-turn.x) (has c.derived-next.result)
-    c.loop-turn.invariant c.derived-next.ensures (c.is-part-of.ensures.0 c.if-is-part-of.true)
+    c.loop-turn.invariant c.derived-next.ensures (c.is_part_of.ensures.0 c.if-is_part_of.true)
 
 pub loop-turn-preserved : goal.loop-turn-preserved
 loop-turn-preserved g c =

@@ -3,11 +3,11 @@ use Rattle.chapters.specs.Table.{chapter_of}
 use Rattle.chapters.proofs.Upward.{none_read_upward}
 use Rattle.chapters.proofs.fitting.first_read_above.Goals as goal
 
-pub returns-then-reads-upward : goal.returns-then-reads-upward
-returns-then-reads-upward g c = (sym c.if-reads-upward.ensures, c.loop-other.invariant)
+pub returns-then-reads_upward : goal.returns-then-reads_upward
+returns-then-reads_upward g c = (sym c.if-reads_upward.ensures, c.loop-other.invariant)
 
 pub loop-other-preserved : goal.loop-other-preserved
-loop-other-preserved g c = below_more _ _ c.loop-other.invariant (sym c.if-reads-upward.ensures)
+loop-other-preserved g c = below_more _ _ c.loop-other.invariant (sym c.if-reads_upward.ensures)
 
 pub returns : goal.returns
 returns g c =

@@ -12,5 +12,5 @@ returns c =
     let buffer = c.args.buffer.now in
     record {
       count = refl;
-      adds = subst (λ (xs : List ℕ). Adds at bytes buffer (put_mid at (at + length bytes - at) buffer xs)) (sym c.copy-from-slice.ensures.after) (adds_copied at bytes buffer);
+      adds = subst (λ (xs : List ℕ). Adds at bytes buffer (put_mid at (at + length bytes - at) buffer xs)) (sym c.copy_from_slice.ensures.after) (adds_copied at bytes buffer);
     }

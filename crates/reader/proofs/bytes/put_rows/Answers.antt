@@ -9,8 +9,8 @@ use Rattle.reader.proofs.bytes.put_rows.Goals as goal
 pub loop-row-init : goal.loop-row-init
 loop-row-init g c = (omega arith, adds_none c.args.at c.args.buffer.now)
 
-pub put-row-end-requires : goal.put-row-end-requires
-put-row-end-requires g c =
+pub put_row-end-requires : goal.put_row-end-requires
+put_row-end-requires g c =
     omega (arith, joined_room g.R.ReplyRow.told c.args.rows.now c.loop-row.row-index c.row-item.result c.loop-row-test.true c.row-item.is, c.loop-row.invariant.0, c.loop-row.auto.buffer, c.requires)
 
 pub loop-row-preserved : goal.loop-row-preserved
@@ -21,10 +21,10 @@ loop-row-preserved g c =
     let row = c.row-item.result in
     let more : flat_map told (take (i + 1) rows) ≡ flat_map told (take i rows) ++ told row = joined_step told rows i row c.loop-row-test.true c.row-item.is in
     let long = ap length more ∙ length-append (flat_map told (take i rows)) (told row) in (
-      omega (arith, c.loop-row.invariant.0, c.put-row-end.ensures.count),
-      subst (λ (xs : List ℕ). Adds c.args.at xs c.args.buffer.now c.put-row-end.new.buffer) (sym more)
-          (adds_then c.args.at c.loop-row.end (flat_map told (take i rows)) (told row) c.args.buffer.now c.loop-row.buffer c.put-row-end.new.buffer
-          c.loop-row.invariant.0 c.loop-row.invariant.1 c.put-row-end.ensures.adds),
+      omega (arith, c.loop-row.invariant.0, c.put_row-end.ensures.count),
+      subst (λ (xs : List ℕ). Adds c.args.at xs c.args.buffer.now c.put_row-end.new.buffer) (sym more)
+          (adds_then c.args.at c.loop-row.end (flat_map told (take i rows)) (told row) c.args.buffer.now c.loop-row.buffer c.put_row-end.new.buffer
+          c.loop-row.invariant.0 c.loop-row.invariant.1 c.put_row-end.ensures.adds),
     )
 
 pub returns : goal.returns

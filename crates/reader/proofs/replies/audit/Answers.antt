@@ -8,11 +8,11 @@ use Rattle.reader.specs.Replies.{least_first, upward_row}
 use Rattle.reader.proofs.Buffers.{put_first, put_more, rows_room}
 use Rattle.reader.proofs.replies.audit.Goals as goal
 
-pub put-rows-requires : goal.put-rows-requires
-put-rows-requires g c =
+pub put_rows-requires : goal.put_rows-requires
+put_rows-requires g c =
     let few : c.in-ok-count.count ≤ 64 = c.in-ok-count.ensures.0 in
     let room = rows_room upward_row 4 64 c.in-ok-count.count (λ r. refl) c.audit.new.rows few in
-    let two = ap length c.in-two-bytes.ensures in
+    let two = ap length c.in_two_bytes.ensures in
     omega (arith, c.put-at.ensures.count, c.put-at-2.ensures.count, c.put-at.auto.buffer, c.put-at-2.auto.buffer, c.requires)
 
 pub returns : goal.returns
@@ -23,9 +23,9 @@ returns g c =
     let few : n ≤ 64 = told.0 in
     let number : length (take n left) ≡ n = length-take-le n left (omega (arith, c.audit.auto.rows)) in
     let first = put_first (134 ∷ []) (134 ∷ []) refl c.put-at.ensures.count c.put-at.ensures.adds in
-    let second = put_more c.in-two-bytes.result (least_first 2 (length (take n left))) first (rw number c.in-two-bytes.ensures) c.put-at-2.ensures.count c.put-at-2.ensures.adds in
+    let second = put_more c.in_two_bytes.result (least_first 2 (length (take n left))) first (rw number c.in_two_bytes.ensures) c.put-at-2.ensures.count c.put-at-2.ensures.adds in
     let rows = flat_map upward_row (take n left) in
-    let all = put_more rows rows second refl c.put-rows.ensures.count c.put-rows.ensures.adds in (
+    let all = put_more rows rows second refl c.put_rows.ensures.count c.put_rows.ensures.adds in (
       audit (take n left),
       (Ok n, replicate 64 zero_row, left, refl, refl, told, refl),
       λ o. (all.there, all.count),

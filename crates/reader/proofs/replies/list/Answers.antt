@@ -11,13 +11,13 @@ use Rattle.reader.proofs.replies.list.Goals as goal
 row_long : (r : Ruling) → length (ruling_row r) ≡ 17
 row_long r = omega (arith, r.long)
 
-pub put-rows-requires : goal.put-rows-requires
-put-rows-requires g c =
+pub put_rows-requires : goal.put_rows-requires
+put_rows-requires g c =
     let n = c.in-ok-listing.listing.rows in
     let few : n ≤ 64 = c.in-ok-listing.ensures.4 in
     let room = rows_room ruling_row 17 64 n row_long c.list.new.rows few in
-    let two = ap length c.in-two-bytes.ensures in
-    let four = ap length c.in-four-bytes.ensures in
+    let two = ap length c.in_two_bytes.ensures in
+    let four = ap length c.in_four_bytes.ensures in
     omega (arith, c.put-at.ensures.count, c.put-at-2.ensures.count, c.put-at-3.ensures.count, c.put-at.auto.buffer, c.put-at-2.auto.buffer, c.put-at-3.auto.buffer, c.requires)
 
 pub returns : goal.returns
@@ -28,10 +28,10 @@ returns g c =
     let few : l.rows ≤ 64 = told.4 in
     let number : length (take l.rows left) ≡ l.rows = length-take-le l.rows left (omega (arith, c.list.auto.rows)) in
     let first = put_first (132 ∷ []) (132 ∷ []) refl c.put-at.ensures.count c.put-at.ensures.adds in
-    let second = put_more c.in-two-bytes.result (least_first 2 (length (take l.rows left))) first (rw number c.in-two-bytes.ensures) c.put-at-2.ensures.count c.put-at-2.ensures.adds in
-    let third = put_more c.in-four-bytes.result (least_first 4 l.effort) second c.in-four-bytes.ensures c.put-at-3.ensures.count c.put-at-3.ensures.adds in
+    let second = put_more c.in_two_bytes.result (least_first 2 (length (take l.rows left))) first (rw number c.in_two_bytes.ensures) c.put-at-2.ensures.count c.put-at-2.ensures.adds in
+    let third = put_more c.in_four_bytes.result (least_first 4 l.effort) second c.in_four_bytes.ensures c.put-at-3.ensures.count c.put-at-3.ensures.adds in
     let rows = flat_map ruling_row (take l.rows left) in
-    let all = put_more rows rows third refl c.put-rows.ensures.count c.put-rows.ensures.adds in (
+    let all = put_more rows rows third refl c.put_rows.ensures.count c.put_rows.ensures.adds in (
       listing (take l.rows left) l.effort,
       (Ok l, replicate 64 c.empty-rows.result, left, refl, refl, told, refl),
       λ o. (all.there, all.count),

@@ -8,19 +8,19 @@ use Rattle.chapters.specs.Table.{chapter_of}
 use Rattle.chapters.proofs.Filling.{FilledBelow, filled_more_in, filled_more_out, filled_all}
 use Rattle.chapters.proofs.Numbers.{cut_below}
 use Rattle.chapters.proofs.chapters.Chapters.part_below.Goals as goal
-use Rattle.chapters.proofs.chapters.Chapters.part_below.Goals.{then-has-below, else-has-below}
+use Rattle.chapters.proofs.chapters.Chapters.part_below.Goals.{then-has_below, else-has_below}
 
 pub loop-point-preserved : goal.loop-point-preserved
 loop-point-preserved c =
     let d : Points = below_chapter (chapter_of c.args.self.now) c.args.chapter (has c.args.ruling) in
     let n = c.loop-point.point in
-    elim c.if-has-below.branch [
-      | then-has-below w ↦
+    elim c.if-has_below.branch [
+      | then-has_below w ↦
           subst (λ (z : Ruling). FilledBelow (n + 1) d (has z)) (sym w.part_is)
-          (filled_more_in n d (has c.loop-point.part) (has w.insert.new.self) (omega arith) c.loop-point.invariant (sym w.if-has-below.ensures) w.insert.ensures)
-      | else-has-below w ↦
+          (filled_more_in n d (has c.loop-point.part) (has w.insert.new.self) (omega arith) c.loop-point.invariant (sym w.if-has_below.ensures) w.insert.ensures)
+      | else-has_below w ↦
           subst (λ (z : Ruling). FilledBelow (n + 1) d (has z)) (sym w.part_is)
-          (filled_more_out n d (has c.loop-point.part) (has c.loop-point.part) (omega arith) c.loop-point.invariant (sym w.if-has-below.ensures))
+          (filled_more_out n d (has c.loop-point.part) (has c.loop-point.part) (omega arith) c.loop-point.invariant (sym w.if-has_below.ensures))
     ]
 
 pub returns : goal.returns

@@ -28,24 +28,24 @@ accepted m ch r v verdict at l few n size none fit e f found =
       same = λ j h. let k = judge_stable m r j clear h in (λ q. k.1 (whole.0 q), λ q. whole.1 (k.0 q));
     }
 
-pub returns-then-not-is-stable : goal.returns-then-not-is-stable
-returns-then-not-is-stable g c =
+pub returns-then-not-is_stable : goal.returns-then-not-is_stable
+returns-then-not-is_stable g c =
     let s = c.args.self.now in
-    accepted (g.B.Book.meaning s.book) (chapter_of s.chapters) c.args.ruling c.new-then-not-is-stable.result c.judge-part-verdict.result (Some c.loop-chapter.chapter)
-    (g.met.B.Book.lawful s.book) s.sixteen c.size.result c.size.ensures c.in-default.ensures c.in-default-first-upward.ensures
-    c.new-then-not-is-stable.ensures.verdict c.new-then-not-is-stable.ensures.chapter
-    (omega arith, c.loop-chapter.invariant, unstable c.judge-part-verdict.result (sym c.if-not-is-stable.ensures), c.judge-part-verdict.ensures)
+    accepted (g.B.Book.meaning s.book) (chapter_of s.chapters) c.args.ruling c.new-then-not-is_stable.result c.judge_part-verdict.result (Some c.loop-chapter.chapter)
+    (g.met.B.Book.lawful s.book) s.sixteen c.size.result c.size.ensures c.in_default.ensures c.in_default-first_upward.ensures
+    c.new-then-not-is_stable.ensures.verdict c.new-then-not-is_stable.ensures.chapter
+    (omega arith, c.loop-chapter.invariant, unstable c.judge_part-verdict.result (sym c.if-not-is_stable.ensures), c.judge_part-verdict.ensures)
 
 pub loop-chapter-preserved : goal.loop-chapter-preserved
 loop-chapter-preserved g c =
     let s = c.args.self.now in
     below_more (PartStable (g.B.Book.meaning s.book) (chapter_of s.chapters) (has c.args.ruling)) c.loop-chapter.chapter c.loop-chapter.invariant
-    (part_stable (g.B.Book.meaning s.book) (chapter_of s.chapters) (has c.args.ruling) c.loop-chapter.chapter c.judge-part-verdict.result c.judge-part-verdict.ensures (sym c.if-not-is-stable.ensures))
+    (part_stable (g.B.Book.meaning s.book) (chapter_of s.chapters) (has c.args.ruling) c.loop-chapter.chapter c.judge_part-verdict.result c.judge_part-verdict.ensures (sym c.if-not-is_stable.ensures))
 
 pub returns : goal.returns
 returns g c =
     let s = c.args.self.now in
     accepted (g.B.Book.meaning s.book) (chapter_of s.chapters) c.args.ruling c.new-2.result Stable None
-    (g.met.B.Book.lawful s.book) s.sixteen c.size.result c.size.ensures c.in-default.ensures c.in-default-first-upward.ensures
+    (g.met.B.Book.lawful s.book) s.sixteen c.size.result c.size.ensures c.in_default.ensures c.in_default-first_upward.ensures
     c.new-2.ensures.verdict c.new-2.ensures.chapter
     (refl, λ k h. c.loop-chapter.invariant k (omega arith))

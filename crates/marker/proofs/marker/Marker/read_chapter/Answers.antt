@@ -19,16 +19,16 @@ returns g c =
     let l = g.met.B.Book.lawful s.book in
     let ch : ℕ → ℕ = chapter_of s.chapters in
     let k = c.args.number in
-    let D = has c.points-of-points.result in
+    let D = has c.points_of-points.result in
     let E : Points = λ a. eqb (ch a) k in
     let U = has c.args.below.sure in
     let V = has c.args.below.possible in
-    let agree : (a : ℕ) → a < m.size → D a ≡ E a = points_of_chapter s.chapters k m.size c.points-of-points.result l.few_points c.points-of-points.ensures in
-    let S = has c.least-pair-part.result.sure in
-    let P = has c.least-pair-part.result.possible in
+    let agree : (a : ℕ) → a < m.size → D a ≡ E a = points_of_chapter s.chapters k m.size c.points_of-points.result l.few_points c.points_of-points.ensures in
+    let S = has c.least_pair-part.result.sure in
+    let P = has c.least_pair-part.result.possible in
     let found : LeastPair (restricted m D U V) (restricted m D V U) S P =
-    subst (λ (w : Meaning). LeastPair w (restricted m D V U) S P) (c.of-chapter-for-sure.ensures m)
-    (subst (λ (w : Meaning). LeastPair (seen m c.of-chapter-for-sure.result) w S P) (c.of-chapter-for-possible.ensures m) c.least-pair-part.ensures) in (
+    subst (λ (w : Meaning). LeastPair w (restricted m D V U) S P) (c.of_chapter-for_sure.ensures m)
+    (subst (λ (w : Meaning). LeastPair (seen m c.of_chapter-for_sure.result) w S P) (c.of_chapter-for_possible.ensures m) c.least_pair-part.ensures) in (
       S,
       P,
       same_least_pair (restricted m D U V) (chapter m ch k U V) (restricted m D V U) (chapter m ch k V U)

@@ -18,5 +18,5 @@ next m l ch k r r' below (S, P, pair, s, p) =
 pub loop-number-preserved : goal.loop-number-preserved
 loop-number-preserved g c =
     let s = c.args.self.now in
-    next (g.B.Book.meaning s.book) (g.met.B.Book.lawful s.book) (chapter_of s.chapters) c.loop-number.number c.loop-number.reading c.read-chapter-reading.result
-    c.loop-number.invariant c.read-chapter-reading.ensures
+    next (g.B.Book.meaning s.book) (g.met.B.Book.lawful s.book) (chapter_of s.chapters) c.loop-number.number c.loop-number.reading c.read_chapter-reading.result
+    c.loop-number.invariant c.read_chapter-reading.ensures

@@ -22,4 +22,4 @@ overflow-add-self g c =
 pub deny-requires : goal.deny-requires
 deny-requires g c =
     let at = within_record c.args.self.now.input.now c.args.self.now.place c.in-Record.call c.in-Record.length c.in-Record.ensures in
-    record { room = omega (arith, c.carry-out.auto.reply); small = omega arith }
+    record { room = omega (arith, c.carry_out.auto.reply); small = omega arith }
