@@ -1,5 +1,5 @@
 -- What every book promises of its three changes, in terms of its meaning alone.
-use Rattle.std.specs.Prelude.{◌≡◌, ℕ, ◌<◌, ◌≤◌, Bool, true, ◌&&◌, ◌||◌, ◌⊎◌, ◌↔◌, Some, Ok, Err, Result, ◌≢◌, nat_le}
+use Rattle.std.specs.Prelude.{◌≡◌, ℕ, ◌<◌, ◌≤◌, ◌&&◌, ◌||◌, ◌⊎◌, ◌↔◌, Some, Ok, Err, Result, ◌≢◌, nat_le}
 use Rattle.rulings.specs.Points.{Points, Lowest}
 use Rattle.rulings.specs.Rulings.{has}
 use Rattle.rulings.specs.declared.ruling.Ruling.{Ruling}

@@ -1,9 +1,9 @@
 -- Lists with the same rows, strictly in order, are equal.
-use Rattle.std.proofs.Common.{◌≡◌, ℕ, zero, suc, ◌<◌, ◌⊎◌, ◌↔◌, List, [], ◌∷◌, length, get_or, sym, refl, ap, ◌∙◌, subst, inl, inr, arith}
+use Rattle.std.proofs.Common.{◌≡◌, zero, suc, ◌⊎◌, List, [], ◌∷◌, sym, refl, ◌∙◌, subst, inl, inr, arith}
 use Rattle.std.specs.List.{ContainsAt, AllByRecursion}
 use Rattle.std.proofs.ByRecursion.{all-has}
 use Rattle.rulings.specs.Order.{StrictTotal}
-use Rattle.rows.specs.Rows.{StrictlyInOrder, SameRowsSameList}
+use Rattle.rows.specs.Rows.{SameRowsSameList}
 use Rattle.rows.proofs.Pairwise.{Pairwise, from_places}
 use Rattle.rows.proofs.Putting.{has_first, has_later}
 

@@ -1,5 +1,5 @@
 -- A ruling as a set of points: which bit of which byte stands for a point.
-use Rattle.std.specs.Prelude.{◌≡◌, ℕ, ◌/◌, ◌%◌, ◌^◌, ◌<◌, ◌≤◌, Bool, true, false, ◌==◌, slice_index}
+use Rattle.std.specs.Prelude.{◌≡◌, ℕ, ◌/◌, ◌%◌, ◌^◌, ◌<◌, ◌≤◌, Bool, false, ◌==◌, slice_index}
 use Rattle.std.specs.Bool.{xor}
 use Rattle.rulings.specs.Points.{Points}
 use Rattle.rulings.specs.declared.ruling.Ruling.{Ruling}

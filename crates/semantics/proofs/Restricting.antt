@@ -5,7 +5,7 @@ use Rattle.rulings.specs.Points.{Points, Part, union}
 use Rattle.semantics.specs.Meaning.{Meaning, Lawful, AgreeOnRead}
 use Rattle.semantics.specs.Closure.{IsClosure}
 use Rattle.semantics.specs.Chapters.{restricted}
-use Rattle.semantics.specs.WellFounded.{Alternates, LeastPair}
+use Rattle.semantics.specs.WellFounded.{LeastPair}
 use Rattle.semantics.proofs.Tests.{and_both, and_of, or_split, or_left, or_right, both_ways}
 
 -- restricted to the points of D, a book is looked up in W and in x's part in D

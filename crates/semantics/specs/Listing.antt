@@ -1,5 +1,5 @@
 -- Listings: all stable rulings, chapter by chapter, and the effort of finding them.
-use Rattle.std.specs.Prelude.{◌≡◌, ℕ, zero, suc, ◌+◌, ◌*◌, ◌^◌, ◌<◌, Bool, true, cond, List, length, ◌==◌, nat_eq, slice_index_or}
+use Rattle.std.specs.Prelude.{◌≡◌, ℕ, zero, suc, ◌+◌, ◌*◌, ◌^◌, ◌<◌, true, cond, List, length, ◌==◌, nat_eq, slice_index_or}
 use Rattle.std.specs.List.{ContainsAt}
 use Rattle.rulings.specs.Points.{Points}
 use Rattle.rulings.specs.Rulings.{has}
