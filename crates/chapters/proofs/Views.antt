@@ -1,5 +1,5 @@
 -- What a view sees of a book is a book; and a view of all points sees it whole.
-use Rattle.std.proofs.Common.{◌≡◌, ℕ, zero, suc, ◌/◌, ◌%◌, ◌<◌, true, false, get_or, replicate, refl, ap, ◌∙◌, mod-lt, arith}
+use Rattle.std.proofs.Common.{◌≡◌, ℕ, zero, suc, ◌/◌, ◌%◌, ◌<◌, true, false, replicate, refl, ap, ◌∙◌, mod-lt, arith}
 use Rattle.std.proofs.lemmas.List.{get_or-replicate}
 use Rattle.rulings.specs.Rulings.{digit, has}
 use Rattle.rulings.specs.declared.ruling.Ruling.{Ruling}

@@ -17,7 +17,7 @@ returns-then-is_part_of g c =
     let b = c.args.book.now in
     let v = c.args.view in
     let m = g.B.Book.meaning b in
-    turn_settled (seen m v) (seen_lawful m (g.met.B.Book.lawful b) v) (has c.args.y) c.loop-turn.-turn (has c.loop-turn.x) (has c.derived-next.result)
+    turn_settled (seen m v) (seen_lawful m (g.met.B.Book.lawful b) v) (has c.args.y) c.loop-turn._turn (has c.loop-turn.x) (has c.derived-next.result)
     c.loop-turn.invariant c.derived-next.ensures (c.is_part_of.ensures.0 c.if-is_part_of.true)
 
 pub loop-turn-preserved : goal.loop-turn-preserved
@@ -25,7 +25,7 @@ loop-turn-preserved g c =
     let b = c.args.book.now in
     let v = c.args.view in
     let m = g.B.Book.meaning b in
-    turn_more (seen m v) (seen_lawful m (g.met.B.Book.lawful b) v) (has c.args.y) c.loop-turn.-turn (has c.loop-turn.x) (has c.derived-next.result)
+    turn_more (seen m v) (seen_lawful m (g.met.B.Book.lawful b) v) (has c.args.y) c.loop-turn._turn (has c.loop-turn.x) (has c.derived-next.result)
     c.loop-turn.invariant c.derived-next.ensures
 
 pub returns : goal.returns
@@ -33,4 +33,4 @@ returns g c =
     let b = c.args.book.now in
     let v = c.args.view in
     let m = g.B.Book.meaning b in
-    turns_done (seen m v) (seen_lawful m (g.met.B.Book.lawful b) v) (has c.args.y) c.loop-turn.-turn (has c.loop-turn.x) (omega (arith, c.size-turn-end.ensures)) c.loop-turn.invariant
+    turns_done (seen m v) (seen_lawful m (g.met.B.Book.lawful b) v) (has c.args.y) c.loop-turn._turn (has c.loop-turn.x) (omega (arith, c.size-turn-end.ensures)) c.loop-turn.invariant

@@ -6,4 +6,4 @@ use Rattle.chapters.specs.Views.{seen}
 use Rattle.chapters.proofs.closures.closure.Given as goal
 
 abbrev pub invariant-loop-turn : goal.invariant-loop-turn
-invariant-loop-turn g l = has l.x ≡ iterate (step (seen (g.B.Book.meaning l.book) l.view) (has l.y)) l.-turn
+invariant-loop-turn g l = has l.x ≡ iterate (step (seen (g.B.Book.meaning l.book) l.view) (has l.y)) l._turn

@@ -13,7 +13,7 @@ returns-then-is_part_of g c =
     let s = c.args.for_sure in
     let p = c.args.for_possible in
     pair_settled (seen m s) (seen m p) (seen_lawful m l s) (seen_lawful m l p)
-    c.loop-turn.-turn (has c.loop-turn.sure) (has c.closure-possible.result) (has c.closure-next.result)
+    c.loop-turn._turn (has c.loop-turn.sure) (has c.closure-possible.result) (has c.closure-next.result)
     c.loop-turn.invariant c.closure-possible.ensures c.closure-next.ensures (c.is_part_of.ensures.0 c.if-is_part_of.true)
 
 pub loop-turn-preserved : goal.loop-turn-preserved
@@ -24,7 +24,7 @@ loop-turn-preserved g c =
     let s = c.args.for_sure in
     let p = c.args.for_possible in
     pair_more (seen m s) (seen m p) (seen_lawful m l s) (seen_lawful m l p)
-    c.loop-turn.-turn (has c.loop-turn.sure) (has c.closure-possible.result) (has c.closure-next.result)
+    c.loop-turn._turn (has c.loop-turn.sure) (has c.closure-possible.result) (has c.closure-next.result)
     c.loop-turn.invariant c.closure-possible.ensures c.closure-next.ensures
 
 pub returns : goal.returns
@@ -35,4 +35,4 @@ returns g c =
     let s = c.args.for_sure in
     let p = c.args.for_possible in
     pair_done (seen m s) (seen m p) (seen_lawful m l s) (seen_lawful m l p)
-    c.loop-turn.-turn (has c.loop-turn.sure) (has c.closure-possible-2.result) (omega (arith, c.size-turn-end.ensures)) c.loop-turn.invariant c.closure-possible-2.ensures
+    c.loop-turn._turn (has c.loop-turn.sure) (has c.closure-possible-2.result) (omega (arith, c.size-turn-end.ensures)) c.loop-turn.invariant c.closure-possible-2.ensures

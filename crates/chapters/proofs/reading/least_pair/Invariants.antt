@@ -7,4 +7,4 @@ use Rattle.chapters.proofs.reading.least_pair.Given as goal
 
 abbrev pub invariant-loop-turn : goal.invariant-loop-turn
 invariant-loop-turn g l =
-    has l.sure ≡ iterate (two_closures (seen (g.B.Book.meaning l.book) l.for_sure) (seen (g.B.Book.meaning l.book) l.for_possible)) l.-turn
+    has l.sure ≡ iterate (two_closures (seen (g.B.Book.meaning l.book) l.for_sure) (seen (g.B.Book.meaning l.book) l.for_possible)) l._turn

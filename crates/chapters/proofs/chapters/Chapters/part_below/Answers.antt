@@ -16,10 +16,10 @@ loop-point-preserved c =
     let n = c.loop-point.point in
     elim c.if-has_below.branch [
       | then-has_below w ↦
-          subst (λ (z : Ruling). FilledBelow (n + 1) d (has z)) (sym w.part_is)
+          subst (λ (z : Ruling). FilledBelow (n + 1) d (has z)) (sym w.part-is)
           (filled_more_in n d (has c.loop-point.part) (has w.insert.new.self) (omega arith) c.loop-point.invariant (sym w.if-has_below.ensures) w.insert.ensures)
       | else-has_below w ↦
-          subst (λ (z : Ruling). FilledBelow (n + 1) d (has z)) (sym w.part_is)
+          subst (λ (z : Ruling). FilledBelow (n + 1) d (has z)) (sym w.part-is)
           (filled_more_out n d (has c.loop-point.part) (has c.loop-point.part) (omega arith) c.loop-point.invariant (sym w.if-has_below.ensures))
     ]
 
