@@ -1,6 +1,6 @@
 -- The reading chapter by chapter: what one chapter adds leaves the lower parts as they were.
-use Rattle.std.proofs.Common.{◌≡◌, ℕ, ◌+◌, ◌<◌, ◌≤◌, Bool, true, false, ◌&&◌, ◌||◌, eqb, ltb, ◌⊎◌, sym, refl, ap, ◌∙◌, subst, inl, inr, eq-or-lt_of_le, arith, ltb-true, lt-ltb, eq-eqb, eqb-true}
-use Rattle.rulings.specs.Points.{Points, Part, union}
+use Rattle.std.proofs.Common.{◌≡◌, ℕ, ◌+◌, ◌<◌, ◌≤◌, Bool, true, false, ◌&&◌, eqb, ltb, ◌⊎◌, sym, ◌∙◌, subst, inl, inr, eq-or-lt_of_le, arith, ltb-true, lt-ltb, eq-eqb, eqb-true}
+use Rattle.rulings.specs.Points.{Points, union}
 use Rattle.semantics.specs.Meaning.{Meaning, Lawful}
 use Rattle.semantics.specs.Closure.{IsClosure}
 use Rattle.semantics.specs.Chapters.{in_chapter, below_chapter, chapter}

@@ -1,5 +1,5 @@
 -- An audit under way: the upward readings of the pairs of points gone through so far. No public contract cites this file.
-use Rattle.std.specs.Prelude.{◌≡◌, ℕ, ◌+◌, ◌<◌, ◌≤◌, true, ◌⊎◌, List, length, get_or, take, drop, Some, None, Option}
+use Rattle.std.specs.Prelude.{◌≡◌, ℕ, ◌+◌, ◌<◌, ◌≤◌, true, ◌⊎◌, List, length, take, drop, Some, None, Option}
 use Rattle.std.specs.List.{ContainsAt}
 use Rattle.rows.specs.Rows.{StrictlyInOrder}
 use Rattle.semantics.specs.Meaning.{Meaning}

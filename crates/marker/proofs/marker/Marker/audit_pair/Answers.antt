@@ -12,8 +12,8 @@ returns-then-not-reads_upward g c =
 pub returns-then-insert_in_order : goal.returns-then-insert_in_order
 returns-then-insert_in_order g c =
     gathered_onto_in (g.B.Book.meaning c.args.self.now.book) (chapter_of c.args.self.now.chapters) c.args.reader c.args.read
-    c.args.rows.now c.args.count c.args.rows.now c.args.count (omega arith, c.requires, refl) c.of_2.result c.of.result c.insert_in_order.new.rows
-    c.of_2.ensures c.of.ensures c.if-not-reads_upward.ensures (omega arith) c.if-insert_in_order.ensures
+    c.args.rows.now c.args.count c.args.rows.now c.args.count (omega arith, c.requires, refl) c.of-2.result c.of.result c.insert_in_order.new.rows
+    c.of-2.ensures c.of.ensures c.if-not-reads_upward.ensures (omega arith) c.if-insert_in_order.ensures
 
 pub returns-else-insert_in_order : goal.returns-else-insert_in_order
 returns-else-insert_in_order g c =

@@ -8,7 +8,7 @@ pub loop-read-preserved : goal.loop-read-preserved
 loop-read-preserved g c =
     gathered_onto_then (g.B.Book.meaning c.args.self.now.book) (chapter_of c.args.self.now.chapters) c.args.reader c.loop-read.read
     c.args.reader (c.loop-read.read + 1) c.args.rows.now c.loop-read.rows c.audit_pair.new.rows
-    c.args.count c.loop-read.count c.in-ok-count.count c.loop-read.invariant c.in-ok-count.ensures
+    c.args.count c.loop-read.count c.in_ok-count.count c.loop-read.invariant c.in_ok-count.ensures
 
 pub returns : goal.returns
 returns g c =

@@ -1,4 +1,4 @@
-use Rattle.std.proofs.Common.{◌≡◌, ℕ, false, ◌↔◌, Ok, Result, ap, subst}
+use Rattle.std.proofs.Common.{◌≡◌, ℕ, false, Ok, Result, ap, subst}
 use Rattle.rulings.specs.Rulings.{has}
 use Rattle.semantics.specs.Closure.{IsClosure}
 use Rattle.semantics.proofs.Restricting.{same_closure}

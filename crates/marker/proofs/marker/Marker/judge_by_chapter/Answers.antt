@@ -1,5 +1,5 @@
-use Rattle.std.proofs.Common.{◌≡◌, ℕ, ◌<◌, false, Some, None, Ok, Option, sym, refl, subst, arith, below_more}
-use Rattle.rulings.specs.Points.{Points, Lowest}
+use Rattle.std.proofs.Common.{◌≡◌, ℕ, Some, None, Ok, Option, sym, refl, subst, arith, below_more}
+use Rattle.rulings.specs.Points.{Lowest}
 use Rattle.rulings.specs.Rulings.{has}
 use Rattle.rulings.specs.declared.ruling.Ruling.{Ruling}
 use Rattle.semantics.specs.Meaning.{Meaning, Lawful}

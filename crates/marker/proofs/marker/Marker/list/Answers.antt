@@ -1,5 +1,5 @@
 -- A walk in vain: the effort is above the ceiling, or more rulings were found than there are rows; every row is filled with the empty ruling.
-use Rattle.std.proofs.Common.{◌≡◌, ℕ, ◌<◌, false, ◌⊎◌, List, length, get_or, Some, refl, ap, ◌∙◌, inl, inr, arith}
+use Rattle.std.proofs.Common.{◌≡◌, ℕ, ◌<◌, false, List, length, get_or, Some, refl, ap, ◌∙◌, inl, inr, arith}
 use Rattle.rulings.specs.Rulings.{has}
 use Rattle.rulings.specs.declared.ruling.Ruling.{Ruling}
 use Rattle.semantics.specs.Meaning.{Meaning}
@@ -12,6 +12,7 @@ use Rattle.answers.specs.declared.listing.Listing.{Listing}
 use Rattle.marker.specs.Listing.{AllEmpty, NoneWide, TriedInVain}
 use Rattle.chapters.specs.Table.{chapter_of}
 use Rattle.marker.specs.Walk.{Walked, InVain}
+use Rattle.marker.proofs.Denials.{listed_denied}
 use Rattle.marker.proofs.marker.Marker.list.Goals as goal
 
 filled_empty : (found rows left : List Ruling) (e : Ruling) → ((a : ℕ) → has e a ≡ false) → length rows ≡ length found → length left ≡ length rows →
@@ -29,9 +30,9 @@ tried_in_vain m ch found rows l why f fit narrow walked is (inr (e, within, more
 pub returns-in-Some-in_vain : goal.returns-in-Some-in_vain
 returns-in-Some-in_vain g c =
     let s = c.args.self.now in
-    inr (
+    listed_denied (g.B.Book.meaning s.book) (chapter_of s.chapters) c.args.rows.now c.new-in-Some-in_vain.result c.fill.new.self (inr (
       tried_in_vain (g.B.Book.meaning s.book) (chapter_of s.chapters) c.args.rows.now c.walk-listing.new.rows c.walk-listing.result c.in-Some-in_vain.refusal
           c.new-in-Some-in_vain.result c.in_default.ensures c.in_default-first_wide.ensures c.walk-listing.ensures c.new-in-Some-in_vain.ensures c.in-Some-in_vain.ensures,
       filled_empty c.args.rows.now c.walk-listing.new.rows c.fill.new.self c.empty.result c.empty.ensures c.walk-listing.ensures.as_long
           c.fill.ensures.len c.fill.ensures.clones,
-    )
+    ))

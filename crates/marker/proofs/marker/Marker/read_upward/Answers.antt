@@ -1,4 +1,4 @@
-use Rattle.std.proofs.Common.{◌≡◌, ℕ, ◌+◌, sym, subst, arith}
+use Rattle.std.proofs.Common.{ℕ, ◌+◌, sym, subst}
 use Rattle.rulings.specs.Points.{Points, union}
 use Rattle.rulings.specs.Rulings.{has}
 use Rattle.semantics.specs.Meaning.{Meaning, Lawful}

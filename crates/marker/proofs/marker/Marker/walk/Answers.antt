@@ -39,9 +39,9 @@ walk-preserved-then-level-levels g c =
     let low : at ≤ at = omega arith in
     let t =
     tried m l ch s.sixteen c.walk.rows c.level.picks c.level.lowers at c.level.candidate c.level.count c.level.effort c.level.rows w
-    c.points_in-points.result c.spread_part.result _ _ c.union-ruling.result c.is_stable_over-stable.result
+    c.points_in-points.result c.spread-part.result _ _ c.union-ruling.result c.is_stable_over-stable.result
     (level_points m ch c.args.levels.now c.requires.levels at w.within c.walk.level (has c.points_in-points.result) c.level.invariant.1 c.points_in-points.ensures)
-    c.spread_part.ensures (w.lower at _ low) (w.lower at _ low) c.is_stable_over-stable.ensures c.union-ruling.ensures in
+    c.spread-part.ensures (w.lower at _ low) (w.lower at _ low) c.is_stable_over-stable.ensures c.union-ruling.ensures in
     walk_onto m l ch s.sixteen c.args.rows.now c.walk.picks c.walk.lowers c.walk.level c.walk.candidate c.walk.count c.walk.effort c.walk.rows c.walk.invariant
     (set c.level.picks at c.level.candidate) (set c.level.lowers (at + 1) c.union-ruling.result) (at + 1) 0 c.level.count (c.level.effort + 1) c.level.rows c.level.invariant.3
     (walk_climb m l ch s.sixteen c.walk.rows c.level.picks c.level.lowers at c.level.candidate c.level.count c.level.effort c.level.rows w more
@@ -61,9 +61,9 @@ level-preserved g c =
     let low : at ≤ at = omega arith in
     let t =
     tried m l ch s.sixteen c.walk.rows c.level.picks c.level.lowers at c.level.candidate c.level.count c.level.effort c.level.rows w
-    c.points_in-points.result c.spread_part.result _ _ c.union-ruling.result c.is_stable_over-stable.result
+    c.points_in-points.result c.spread-part.result _ _ c.union-ruling.result c.is_stable_over-stable.result
     (level_points m ch c.args.levels.now c.requires.levels at w.within c.walk.level (has c.points_in-points.result) c.level.invariant.1 c.points_in-points.ensures)
-    c.spread_part.ensures (w.lower at _ low) (w.lower at _ low) c.is_stable_over-stable.ensures c.union-ruling.ensures in
+    c.spread-part.ensures (w.lower at _ low) (w.lower at _ low) c.is_stable_over-stable.ensures c.union-ruling.ensures in
     elim c.if-stable-2.branch [
       | then-stable-2 v ↦ (
         moved m ch c.walk.rows _ _ _ _ (c.level.count + 1) c.if-stable-2.count _ v.insert_in_order.new.rows c.if-stable-2.rows v.count-is v.rows-is
@@ -87,8 +87,8 @@ level-preserved g c =
       )
     ]
 
-pub overflow-add-candidate-in-walk : goal.overflow-add-candidate-in-walk
-overflow-add-candidate-in-walk g c =
+pub overflow_add-candidate-in-walk : goal.overflow_add-candidate-in-walk
+overflow_add-candidate-in-walk g c =
     let s = c.args.self.now in
     let m = g.B.Book.meaning s.book in
     let ch : ℕ → ℕ = chapter_of s.chapters in
