@@ -1,5 +1,5 @@
 -- What a call owes by its kind, and that each of a marker's calls is a step of its kind.
-use Rattle.std.proofs.Common.{◌≡◌, ℕ, ◌⊎◌, List, Ok, Err, refl, ap, inl, inr}
+use Rattle.std.proofs.Common.{◌≡◌, ℕ, ◌⊎◌, Ok, Err, refl, ap, inl, inr}
 use Rattle.rulings.specs.declared.ruling.Ruling.{Ruling}
 use Rattle.semantics.specs.Meaning.{Meaning, Lawful}
 use Rattle.books.specs.declared.book.Book.{Ghosts as Sort}

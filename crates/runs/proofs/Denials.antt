@@ -1,5 +1,5 @@
 -- What is denied is denied for one reason only, and what is answered is not denied.
-use Rattle.std.proofs.Common.{◌≡◌, ℕ, ◌<◌, ◌≤◌, ltb, ◌⊎◌, List, length, Some, sym, ap, ◌∙◌, subst, inl, inr, ⊎_elim, arith, ltb-true}
+use Rattle.std.proofs.Common.{◌≡◌, ℕ, ◌<◌, ◌≤◌, ltb, List, length, Some, sym, ap, ◌∙◌, subst, inl, inr, ⊎_elim, arith, ltb-true}
 use Rattle.std.proofs.lemmas.Bool.{cases_order}
 use Rattle.rulings.specs.Points.{Points, Lowest}
 use Rattle.rulings.specs.Rulings.{has}

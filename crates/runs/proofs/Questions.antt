@@ -18,6 +18,7 @@ use Rattle.answers.specs.declared.verdict.ChapterVerdict.{ChapterVerdict}
 use Rattle.chapters.specs.Fitting.{UpwardDenied}
 use Rattle.marker.specs.Judging.{NoStray, StrayDenied, Judged, JudgedByChapter}
 use Rattle.marker.specs.Listing.{NoneWide, TriedInVain, Listed}
+use Rattle.marker.proofs.Denials.{denied_in_parts}
 use Rattle.marker.specs.Reading.{ReadInto}
 use Rattle.marker.proofs.Verdicts.{stable_verdict, by_chapter_agrees}
 use Rattle.runs.specs.Law.{ByChapterDenied, ListingDenied, NotDenied}
@@ -160,8 +161,11 @@ module _ (m : Meaning) (ch : ℕ → ℕ) (lawful : Lawful m) (few : Sixteen ch)
 
   listed : (n : ℕ) (r : Result Counts Fault) (found left : List Ruling) → length found ≡ n → t ≡ listing_told r left →
       Listed m ch found r left → Owes (to_list n) m ch t
-  listed n (Err f) found left long e (inl d) = inl (f, e, inl d.0)
-  listed n (Err f) found left long e (inr d) = inl (f, e, inr (subst (λ (k : ℕ). TriedInVain m ch k f) long d.0))
+  listed n (Err f) found left long e d =
+      elim (denied_in_parts m ch found f left d) [
+        | inl d ↦ inl (f, e, inl d.0)
+        | inr d ↦ inl (f, e, inr (subst (λ (k : ℕ). TriedInVain m ch k f) long d.0))
+      ]
   listed n (Ok l) found left long e (fit, none, effort, within, room, all, rest) =
       inr (
         (take l.rows left, l.effort),

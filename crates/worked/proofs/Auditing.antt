@@ -1,5 +1,5 @@
 -- Upward readings by computing.
-use Rattle.std.proofs.Common.{◌≡◌, ℕ, ◌-◌, ◌<◌, Bool, true, false, not, ◌&&◌, ◌||◌, eqb, List, length, take, drop, Ok, Err, Result, sym, refl, ap, ◌∙◌, subst, ap₂, subst₂, inl, inr, arith, eqb-true}
+use Rattle.std.proofs.Common.{◌≡◌, ℕ, ◌-◌, ◌<◌, Bool, true, not, ◌&&◌, ◌||◌, eqb, List, length, take, drop, Ok, Err, Result, sym, refl, ap, ◌∙◌, subst, ap₂, subst₂, inl, inr, arith, eqb-true}
 use Rattle.std.specs.List.{ContainsAt}
 use Rattle.std.proofs.lemmas.List.{length-take}
 use Rattle.rows.specs.Rows.{StrictlyInOrder}
@@ -36,7 +36,7 @@ module _ (m : Meaning) (ch : ℕ → ℕ) where
 
     pub refuses : Lawful m → refuse_check ≡ true → RefusesListing m ch (fault_of layer.Marker (ReadsUpward a b))
     unfolding RefusesListing
-    refuses l h found left r = (only r, λ e. subst₂ (Listed m ch found) (sym e.0) (sym e.1) (inl (inl denied, refl)))
+    refuses l h found left r = (only r, λ e. subst₂ (Listed m ch found) (sym e.0) (sym e.1) (inl (denied, refl)))
       where
         denied : UpwardDenied m ch (fault_of layer.Marker (ReadsUpward a b))
         denied =
@@ -57,9 +57,10 @@ module _ (m : Meaning) (ch : ℕ → ℕ) where
 
         only : (o : Result Listing Fault) → Listed m ch found o left → (o ≡ Err (fault_of layer.Marker (ReadsUpward a b))) × (left ≡ found)
         only (Ok o) (fit, _, _, _, _, _, _) = fitting m ch (fault_of layer.Marker (ReadsUpward a b)) fit denied
-        only (Err f) (inl (inl u, same)) = (ap Err (upward_once m ch f (fault_of layer.Marker (ReadsUpward a b)) u denied), same)
-        only (Err f) (inl (inr (fit, _), _)) = fitting m ch (fault_of layer.Marker (ReadsUpward a b)) fit denied
-        only (Err f) (inr ((fit, _, _), _)) = fitting m ch (fault_of layer.Marker (ReadsUpward a b)) fit denied
+        only (Err f) (inl (u, same)) = (ap Err (upward_once m ch f (fault_of layer.Marker (ReadsUpward a b)) u denied), same)
+        only (Err f) (inr (inl (fit, _, _))) = fitting m ch (fault_of layer.Marker (ReadsUpward a b)) fit denied
+        only (Err f) (inr (inr (inl (fit, _, _, _, _)))) = fitting m ch (fault_of layer.Marker (ReadsUpward a b)) fit denied
+        only (Err f) (inr (inr (inr (fit, _, _, _, _, _)))) = fitting m ch (fault_of layer.Marker (ReadsUpward a b)) fit denied
 
   -- the row is that of an upward reading
   abbrev pub is_upward : UpwardReading → Bool

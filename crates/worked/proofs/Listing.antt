@@ -203,11 +203,11 @@ module _ (m : Meaning) (ch : ℕ → ℕ) where
             let said : Left o.rows = (ap (map has) rows ∙ rows_are m.size l.few_points sets c.inside, later) in
             let left_said : Left (length sets) = subst Left n said in
             (ap₂ answer n (effort_unique m ch o.effort effort tried counted), left_said.0, left_said.1)
-        only (Err f) (inl (inl u, _)) = fitting m ch f (fits_use m l ch c.fit) u
-        only (Err f) (inl (inr (_, (k, _, low, wide, _)), _)) = absurd (let w = narrow k low in omega arith)
-        only (Err f) (inr ((_, _, (e, tried, inl (_, high))), _)) =
+        only (Err f) (inl (u, _)) = fitting m ch f (fits_use m l ch c.fit) u
+        only (Err f) (inr (inl (_, (k, _, low, wide, _), _))) = absurd (let w = narrow k low in omega arith)
+        only (Err f) (inr (inr (inl (_, _, _, (e, tried, high), _)))) =
             absurd (let s = effort_unique m ch e effort tried counted in let t = leb-true effort 65536 c.low in omega arith)
-        only (Err f) (inr ((_, _, (e, tried, inr (_, _, (rows, rows_all, more)))), _)) =
+        only (Err f) (inr (inr (inr (_, _, _, _, (rows, rows_all, more), _)))) =
             absurd (omega (arith, ap length (same_listing (AllPartsStable m ch) rows (map row sets) rows_all listing), length-map sets row))
 
         there : (r ≡ answer (length sets) effort) × (map has (take (length sets) left) ≡ map listed sets) × (drop (length sets) left ≡ drop (length sets) found) →

@@ -10,16 +10,16 @@ use Rattle.reader.proofs.replies.audit.Goals as goal
 
 pub put_rows-requires : goal.put_rows-requires
 put_rows-requires g c =
-    let few : c.in-ok-count.count ≤ 64 = c.in-ok-count.ensures.0 in
-    let room = rows_room upward_row 4 64 c.in-ok-count.count (λ r. refl) c.audit.new.rows few in
+    let few : c.in_ok-count.count ≤ 64 = c.in_ok-count.ensures.0 in
+    let room = rows_room upward_row 4 64 c.in_ok-count.count (λ r. refl) c.audit.new.rows few in
     let two = ap length c.in_two_bytes.ensures in
     omega (arith, c.put-at.ensures.count, c.put-at-2.ensures.count, c.put-at.auto.buffer, c.put-at-2.auto.buffer, c.requires)
 
 pub returns : goal.returns
 returns g c =
-    let n = c.in-ok-count.count in
+    let n = c.in_ok-count.count in
     let left = c.audit.new.rows in
-    let told = c.in-ok-count.ensures in
+    let told = c.in_ok-count.ensures in
     let few : n ≤ 64 = told.0 in
     let number : length (take n left) ≡ n = length-take-le n left (omega (arith, c.audit.auto.rows)) in
     let first = put_first (134 ∷ []) (134 ∷ []) refl c.put-at.ensures.count c.put-at.ensures.adds in

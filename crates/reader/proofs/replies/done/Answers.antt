@@ -6,5 +6,5 @@ use Rattle.reader.proofs.replies.done.Goals as goal
 
 pub returns : goal.returns
 returns c =
-    done_written c.args.outcome c.put.result c.args.reply.now c.put.new.buffer c.in-ok-outcome.was
+    done_written c.args.outcome c.put.result c.args.reply.now c.put.new.buffer c.in_ok-outcome.was
     (put_first (129 ∷ []) (129 ∷ []) refl c.put.ensures.count c.put.ensures.adds)

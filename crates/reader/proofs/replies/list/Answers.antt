@@ -13,8 +13,8 @@ row_long r = omega (arith, r.long)
 
 pub put_rows-requires : goal.put_rows-requires
 put_rows-requires g c =
-    let n = c.in-ok-listing.listing.rows in
-    let few : n ≤ 64 = c.in-ok-listing.ensures.4 in
+    let n = c.in_ok-listing.listing.rows in
+    let few : n ≤ 64 = c.in_ok-listing.ensures.4 in
     let room = rows_room ruling_row 17 64 n row_long c.list.new.rows few in
     let two = ap length c.in_two_bytes.ensures in
     let four = ap length c.in_four_bytes.ensures in
@@ -22,9 +22,9 @@ put_rows-requires g c =
 
 pub returns : goal.returns
 returns g c =
-    let l = c.in-ok-listing.listing in
+    let l = c.in_ok-listing.listing in
     let left = c.list.new.rows in
-    let told = c.in-ok-listing.ensures in
+    let told = c.in_ok-listing.ensures in
     let few : l.rows ≤ 64 = told.4 in
     let number : length (take l.rows left) ≡ l.rows = length-take-le l.rows left (omega (arith, c.list.auto.rows)) in
     let first = put_first (132 ∷ []) (132 ∷ []) refl c.put-at.ensures.count c.put-at.ensures.adds in

@@ -19,22 +19,22 @@ second_keeps g =
     marker_keeps g.C.Book
     (record { lawful = g.met.C.Book.lawful; opens = g.met.C.Book.opens; enters = g.met.C.Book.enters; withdraws = g.met.C.Book.withdraws })
 
-pub returns-in-err-answers : goal.returns-in-err-answers
-returns-in-err-answers g c =
-    let p = err_from_is_err_and c.from-residual.result c.from-residual.ensures.1 in
+pub returns-in_err-answers : goal.returns-in_err-answers
+returns-in_err-answers g c =
+    let p = err_from_is_err_and c.from_residual.result c.from_residual.ensures.1 in
     rw p.1
     (compared_so_far (marker_calls g.B.Book) (marker_calls g.C.Book) (first_keeps g) (second_keeps g) c.args.calls.now c.args.others.now
-    c.in-err-answers.ensures
+    c.in_err-answers.ensures
     (not_begun (marker_calls g.C.Book) c.args.second.now c.args.others.now))
 
-pub returns-in-err-others : goal.returns-in-err-others
-returns-in-err-others g c =
-    let p = err_from_is_err_and c.from-residual-in-err-others.result c.from-residual-in-err-others.ensures.1 in
+pub returns-in_err-others : goal.returns-in_err-others
+returns-in_err-others g c =
+    let p = err_from_is_err_and c.from_residual-in_err-others.result c.from_residual-in_err-others.ensures.1 in
     rw p.1
     (compared_so_far (marker_calls g.B.Book) (marker_calls g.C.Book) (first_keeps g) (second_keeps g) c.args.calls.now c.args.others.now
-    (ended (marker_calls g.B.Book) c.args.first.now c.args.calls.now (map told (vec_items c.in-ok-answers.answers)) c.replay.new.marker c.in-ok-answers.ensures)
-    c.in-err-others.ensures)
+    (ended (marker_calls g.B.Book) c.args.first.now c.args.calls.now (map told (vec_items c.in_ok-answers.answers)) c.replay.new.marker c.in_ok-answers.ensures)
+    c.in_err-others.ensures)
 
 pub returns : goal.returns
 returns g c =
-    compared (marker_calls g.B.Book) (marker_calls g.C.Book) (first_keeps g) (second_keeps g) c.in-ok-answers.ensures c.in-ok-others.ensures
+    compared (marker_calls g.B.Book) (marker_calls g.C.Book) (first_keeps g) (second_keeps g) c.in_ok-answers.ensures c.in_ok-others.ensures
