@@ -1,10 +1,9 @@
 -- The format of replies.
-use Rattle.std.specs.Prelude.{◌≡◌, ℕ, zero, suc, ◌/◌, ◌%◌, ◌^◌, ◌<◌, List, [], ◌∷◌, ◌++◌, length, drop, Some, None, Option}
+use Rattle.std.specs.Prelude.{◌≡◌, ℕ, zero, suc, ◌/◌, ◌%◌, ◌^◌, ◌<◌, List, [], ◌∷◌, ◌++◌, length, drop, Some, None}
 use Rattle.std.specs.List.{flat_map}
 use Rattle.rulings.specs.declared.ruling.Ruling.{Ruling}
 use Rattle.answers.specs.declared.audit.UpwardReading.{UpwardReading}
 use Rattle.answers.specs.declared.fault.Fault.{Fault}
-use Rattle.answers.specs.declared.verdict.ChapterVerdict.{ChapterVerdict}
 use Rattle.answers.specs.Faults.{number, places, layer_number}
 use Rattle.answers.specs.Verdicts.{or_255, verdict_told}
 use Rattle.runs.specs.Told.{Told, done, verdict, chapter_verdict, reading, listing, audit, denied}

@@ -1,5 +1,5 @@
 -- Each turn takes the stream further, ends it, or is refused for an input that is too long.
-use Rattle.std.proofs.Common.{◌≡◌, ℕ, List, [], ◌++◌, length, take, vec_items, sym, refl, ap, ◌∙◌, subst, inl, inr, arith, length-take}
+use Rattle.std.proofs.Common.{◌≡◌, ℕ, List, [], ◌++◌, take, vec_items, sym, refl, ap, ◌∙◌, subst, inl, inr, arith, length-take}
 use Rattle.std.proofs.lemmas.Result.{err_from_is_err_and}
 use Rattle.answers.specs.declared.fault.Fault.{Fault}
 use Rattle.answers.specs.declared.fault.Refusal.TheVariants.{InputTooLong}
@@ -33,13 +33,13 @@ loop-turn-init g c = (
   under_way g.B.Book c.args.marker.now c.args.input.now c.new-reader.result.place (vec_items c.new-replies.result) c.args.marker.now c.new-reader.ensures.place c.new-replies.ensures.items refl,
 )
 
-pub slice-bounds-reply-end-in-Replied : goal.slice-bounds-reply-end-in-Replied
-slice-bounds-reply-end-in-Replied g c =
+pub slice_bounds-reply-end-in-Replied : goal.slice_bounds-reply-end-in-Replied
+slice_bounds-reply-end-in-Replied g c =
     let further = replied_to g.B.Book c.args.marker.now c.loop-turn.invariant.0 c.loop-turn.invariant.2 c.in-Ok.turn c.in-Replied.length c.in-Replied.is c.in-Ok.ensures.turned in
     omega (arith, further.within)
 
-pub slice-bounds-extend_from_slice-end-in-Replied : goal.slice-bounds-extend_from_slice-end-in-Replied
-slice-bounds-extend_from_slice-end-in-Replied g c =
+pub slice_bounds-extend_from_slice-end-in-Replied : goal.slice_bounds-extend_from_slice-end-in-Replied
+slice_bounds-extend_from_slice-end-in-Replied g c =
     let further = replied_to g.B.Book c.args.marker.now c.loop-turn.invariant.0 c.loop-turn.invariant.2 c.in-Ok.turn c.in-Replied.length c.in-Replied.is c.in-Ok.ensures.turned in
     simp length-take (omega (arith, further.within))
 
@@ -52,12 +52,12 @@ loop-turn-preserved g c =
     let further = replied_to g.B.Book c.args.marker.now c.loop-turn.invariant.0 c.loop-turn.invariant.2 c.in-Ok.turn c.in-Replied.length c.in-Replied.is c.in-Ok.ensures.turned in (
       c.in-Ok.ensures.input ∙ c.loop-turn.invariant.0,
       omega (arith, c.turn.auto.reply, c.loop-turn.invariant.1),
-      subst (λ (xs : List ℕ). UnderWay g.B.Book c.args.marker.now c.args.input.now c.turn.new.self.place xs c.turn.new.marker) (sym c.in_ok-extend_from_slice-2.ensures.items) further.on,
+      subst (λ (xs : List ℕ). UnderWay g.B.Book c.args.marker.now c.args.input.now c.turn.new.self.place xs c.turn.new.marker) (sym c.in_ok-extend_from_slice-in-Replied.ensures.items) further.on,
     )
 
-pub returns-in_err-extend_from_slice-2 : goal.returns-in_err-extend_from_slice-2
-returns-in_err-extend_from_slice-2 g c =
-    let p = err_from_is_err_and c.from_residual-in_err-extend_from_slice-2.result c.from_residual-in_err-extend_from_slice-2.ensures.1 in
+pub returns-in_err-extend_from_slice-in-Replied : goal.returns-in_err-extend_from_slice-in-Replied
+returns-in_err-extend_from_slice-in-Replied g c =
+    let p = err_from_is_err_and c.from_residual-in_err-extend_from_slice-in-Replied.result c.from_residual-in_err-extend_from_slice-in-Replied.ensures.1 in
     let further = replied_to g.B.Book c.args.marker.now c.loop-turn.invariant.0 c.loop-turn.invariant.2 c.in-Ok.turn c.in-Replied.length c.in-Replied.is c.in-Ok.ensures.turned in
     rw p.1
     (broken_off g.B.Book c.args.marker.now c.args.input.now c.turn.new.self.place (vec_items c.loop-turn.replies ++ take c.in-Replied.length c.turn.new.reply) c.turn.new.marker further.on)
@@ -69,8 +69,8 @@ returns-in-Finished g c =
     inr (whole.0, lawful g whole.1)
 
 -- a turn that was refused: the input is too long, and nothing was done
-pub returns-in_err-extend_from_slice : goal.returns-in_err-extend_from_slice
-returns-in_err-extend_from_slice g c =
+pub returns-in_err-extend_from_slice-in-Err : goal.returns-in_err-extend_from_slice-in-Err
+returns-in_err-extend_from_slice-in-Err g c =
     let p = err_from_is_err_and c.from_residual.result c.from_residual.ensures.1 in
     let too_long = refused g.B.Book c.args.marker.now c.loop-turn.invariant.0 c.loop-turn.invariant.2 c.in-Err.fault (omega (arith, c.loop-turn.invariant.1)) c.in-Err.ensures.turned in
     rw p.1
@@ -84,6 +84,6 @@ returns-in-Err g c =
     let told : take n reply ≡ fault_reply 0 c.in-Err.fault = written_there (fault_reply 0 c.in-Err.fault) c.turn.new.reply reply n c.deny-length.ensures.count c.deny-length.ensures.wrote in
     inl (
       too_long.0,
-      denial_alone (vec_items c.extend_from_slice.new.self) (vec_items c.loop-turn.replies) (take n reply) c.in-Err.fault c.in_ok-extend_from_slice.ensures.items too_long.2 told too_long.1,
+      denial_alone (vec_items c.extend_from_slice.new.self) (vec_items c.loop-turn.replies) (take n reply) c.in-Err.fault c.in_ok-extend_from_slice-in-Err.ensures.items too_long.2 told too_long.1,
       too_long.3,
     )

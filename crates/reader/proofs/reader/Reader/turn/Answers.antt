@@ -1,5 +1,5 @@
 -- Where a record stands, it lies within the input.
-use Rattle.std.proofs.Common.{length, arith}
+use Rattle.std.proofs.Common.{arith}
 use Rattle.reader.proofs.Fronts.{within_byte, within_record}
 use Rattle.reader.proofs.reader.Reader.turn.Goals as goal
 
@@ -14,8 +14,8 @@ stop-length-requires-in-Cut g c =
     let at = within_byte c.args.self.now.input.now c.args.self.now.place _ c.in-Cut.ensures.1 c.in-Cut.ensures.2 in
     record { room = omega arith; small = omega arith }
 
-pub overflow-add-self : goal.overflow-add-self
-overflow-add-self g c =
+pub overflow_add-self : goal.overflow_add-self
+overflow_add-self g c =
     let at = within_record c.args.self.now.input.now c.args.self.now.place c.in-Record.call c.in-Record.length c.in-Record.ensures in
     omega arith
 
