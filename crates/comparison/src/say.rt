@@ -5,25 +5,6 @@ use marker::Marker;
 use rulings::Ruling;
 use std::io;
 
-// What the tour prints of a call and its outcome.
-use answers::Fault;
-use books::Book;
-use marker::Marker;
-use rulings::Ruling;
-use std::io;
-
-pub(crate) fn title(rt: &HostRuntime, title: &str) -> io::Result<()> {
-    println!(rt; "")?;
-    println!(rt; "{title}")
-}
-
-// What the tour prints of a call and its outcome.
-use answers::Fault;
-use books::Book;
-use marker::Marker;
-use rulings::Ruling;
-use std::io;
-
 pub(crate) fn title(rt: &HostRuntime, title: &str) -> io::Result<()> {
     println!(rt; "")?;
     println!(rt; "{title}")
@@ -33,42 +14,6 @@ pub(crate) fn outcome(rt: &HostRuntime, what: &str, outcome: Result<(), Fault>) 
     match outcome {
         Ok(()) => println!(rt; "  {what}: done"),
         Err(fault) => println!(rt; "  {what}: {fault}"),
-    }
-}
-
-// What the tour prints of a call and its outcome.
-use answers::Fault;
-use books::Book;
-use marker::Marker;
-use rulings::Ruling;
-use std::io;
-
-pub(crate) fn title(rt: &HostRuntime, title: &str) -> io::Result<()> {
-    println!(rt; "")?;
-    println!(rt; "{title}")
-}
-
-pub(crate) fn outcome(rt: &HostRuntime, what: &str, outcome: Result<(), Fault>) -> io::Result<()> {
-    match outcome {
-        Ok(()) => println!(rt; "  {what}: done"),
-        Err(fault) => println!(rt; "  {what}: {fault}"),
-    }
-}
-
-// Enters for the point that it stands if all supporters do and no striker does.
-pub(crate) fn enter<B: Book>(
-    rt: &HostRuntime,
-    marker: &mut Marker<B>,
-    point: u8,
-    supporters: &[u8],
-    strikers: &[u8],
-) -> io::Result<()> {
-    let p = Ruling::from_points(supporters);
-    let q = Ruling::from_points(strikers);
-    print!(rt; "  {point} if all of {p} and none of {q}: ")?;
-    match marker.enter(point, p, q) {
-        Ok(()) => println!(rt; "done"),
-        Err(fault) => println!(rt; "{fault}"),
     }
 }
 
