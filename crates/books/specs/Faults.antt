@@ -8,11 +8,11 @@ use Rattle.rulings.specs.declared.ruling.Ruling.{Ruling}
 use Rattle.semantics.specs.Meaning.{Meaning}
 use Rattle.semantics.proofs.Tests.{false_is_not_true, and_of}
 use Rattle.answers.specs.declared.fault.Refusal.{Refusal}
-use Rattle.answers.specs.declared.fault.Refusal.TheVariants.{NoSuchPoint, StrayMark}
+use Rattle.answers.specs.declared.fault.Refusal.TheVariants.{BadSize, NoSuchPoint, StrayMark}
 use Rattle.answers.specs.declared.fault.Layer.TheVariants.{Book}
 use Rattle.answers.specs.declared.fault.Fault.{Fault}
 use Rattle.answers.specs.Faults.{fault_of, number, places}
-use Rattle.books.specs.Promise.{Outcome, BySort, SameBut, Entering, Withdrawing, stray}
+use Rattle.books.specs.Promise.{Outcome, BySort, BadSizeFor, SameBut, Opening, Entering, Withdrawing, stray}
 
 -- an accepted change is no denied one
 pub accepted_not_denied : {A : Type 0} {f : Fault} → ◌≡◌ {A = Outcome} (Ok tt) (Err f) → A
@@ -46,6 +46,26 @@ not_stray n x none a h = go (dec_lt a n)
 pub none_stray : (n : ℕ) (p q u : Ruling) → ((c : ℕ) → has u c ≡ has p c || has q c) →
     Lowest (λ c. nat_le n c && has u c) None → Lowest (stray n (λ c. has p c || has q c)) None
 none_stray n p q u both none c = sym (ap (λ (t : Bool). nat_le n c && t) (both c)) ∙ none c
+
+-- an opening goes by the size alone
+module _ (m : Meaning) (n : ℕ) (m' : Meaning) where
+  pub opening_accepted : (BadSizeFor n → ⊥) → m'.size ≡ n → Opening m n (Ok tt) m'
+  opening_accepted good size =
+      record {
+        bad_size = (accepted_not_denied, λ h. absurd (good h));
+        otherwise = λ f. accepted_not_denied;
+        accepted = λ _. size;
+        unaltered = λ f. accepted_not_denied;
+      }
+
+  pub opening_denied : (f : Fault) → BadSizeFor n → f ≡ fault_of Book BadSize → m' ≡ m → Opening m n (Err f) m'
+  opening_denied f bad is same =
+      record {
+        bad_size = (λ _. bad, λ _. ap Err is);
+        otherwise = λ g e. inl (sym (same_fault e) ∙ is);
+        accepted = λ e. accepted_not_denied (sym e);
+        unaltered = λ g e. same;
+      }
 
 -- a denied entering names the point, or a stray one, or goes by the sort of book
 abbrev pub EnteringFault : ℕ → ℕ → Points → Fault → Type 0

@@ -10,11 +10,11 @@ use Rattle.answers.specs.declared.fault.Refusal.TheVariants.{BookFull, NothingEn
 use Rattle.books.specs.declared.table.Entry.{Entry}
 use Rattle.books.specs.declared.table.Table.{Table}
 use Rattle.books.specs.declared.rule_book.RuleBook.{RuleBook}
-use Rattle.books.specs.Promise.{Outcome, Entering, Withdrawing}
+use Rattle.books.specs.Promise.{Outcome, Opening, Entering, Withdrawing}
 use Rattle.books.specs.Entries.{standing, any, for_point, fires, looks_at}
-use Rattle.books.specs.RuleBook.{entries, meaning_of, entry, strays, EnterDenied, Entered, WithdrawDenied, Withdrawn}
+use Rattle.books.specs.RuleBook.{entries, meaning_of, entry, strays, Opened, EnterDenied, Entered, WithdrawDenied, Withdrawn}
 use Rattle.books.specs.Any.{any_append, any_push, any_kept}
-use Rattle.books.specs.Faults.{EnteringFault, WithdrawingFault, entering_accepted, entering_denied, withdrawing_accepted, withdrawing_denied, not_stray}
+use Rattle.books.specs.Faults.{EnteringFault, WithdrawingFault, entering_accepted, entering_denied, opening_accepted, opening_denied, withdrawing_accepted, withdrawing_denied, not_stray}
 
 -- an entry for another point neither fires nor looks at anything for this one
 module _ (a b : ℕ) (other : b ≡ a → ⊥) (e : Entry) where
@@ -26,6 +26,10 @@ module _ (a b : ℕ) (other : b ≡ a → ⊥) (e : Entry) where
 
   no_look : (c : ℕ) → for_point a e ≡ true → looks_at b c e ≡ false
   no_look c h = rw (for_other h) refl
+
+pub opens : (b : RuleBook) (n : ℕ) (r : Outcome) (b' : RuleBook) → Opened b n r b' → Opening (meaning_of b) n r (meaning_of b')
+opens b n (Ok tt) b' (good, size, _) = opening_accepted (meaning_of b) n (meaning_of b') good size
+opens b n (Err f) b' (bad, is, same) = opening_denied (meaning_of b) n (meaning_of b') f bad is (ap meaning_of same)
 
 pub enters : (b : RuleBook) (a : ℕ) (p q : Ruling) (r : Outcome) (b' : RuleBook) → Entered b a p q r b' → Entering (meaning_of b) a p q r (meaning_of b')
 enters b a p q (Ok tt) b' (inside, clear, room, size, after) =

@@ -9,13 +9,13 @@ use Rattle.semantics.specs.Meaning.{Lawful, AgreeOnRead}
 use Rattle.semantics.proofs.Tests.{false_is_not_true, and_both, and_of, both_ways}
 use Rattle.answers.specs.declared.fault.Refusal.TheVariants.{NoSupportersHere, NothingEntered}
 use Rattle.books.specs.declared.protest_book.ProtestBook.{ProtestBook}
-use Rattle.books.specs.Promise.{Outcome, SameBut, Entering, Withdrawing}
+use Rattle.books.specs.Promise.{Outcome, SameBut, Opening, Entering, Withdrawing}
 use Rattle.books.specs.Entries.{avoids}
 use Rattle.books.specs.Program.{Rule, Derives}
-use Rattle.books.specs.ProtestBook.{lodged, protesters, protest_meaning, protest_program, ProtestDenied, ProtestEntered, ProtestWithdrawDenied, ProtestWithdrawn}
+use Rattle.books.specs.ProtestBook.{lodged, protesters, protest_meaning, protest_program, ProtestOpened, ProtestDenied, ProtestEntered, ProtestWithdrawDenied, ProtestWithdrawn}
 use Rattle.books.specs.Tests.{contrapositive, or_nothing, and_not_nothing}
 use Rattle.books.specs.EntriesLemmas.{avoids_use, avoids_of}
-use Rattle.books.specs.Faults.{EnteringFault, WithdrawingFault, entering_accepted, entering_denied, withdrawing_accepted, withdrawing_denied}
+use Rattle.books.specs.Faults.{EnteringFault, WithdrawingFault, entering_accepted, entering_denied, opening_accepted, opening_denied, withdrawing_accepted, withdrawing_denied}
 use Rattle.books.specs.ProgramLemmas.{GivenBy, ReadsBodies}
 
 module _ (b : ProtestBook) where
@@ -84,6 +84,10 @@ same_but b a b' l p =
       derives = λ c other x y. ap₂ (λ (t : Bool) (q : Points). t && avoids y q) (l c other) (fun_ext (p c other));
       reads = λ c other d. ap₂ ◌&&◌ (l c other) (p c other d);
     }
+
+pub protest_opens : (b : ProtestBook) (n : ℕ) (r : Outcome) (b' : ProtestBook) → ProtestOpened b n r b' → Opening (protest_meaning b) n r (protest_meaning b')
+protest_opens b n (Ok tt) b' (good, size, _, _) = opening_accepted (protest_meaning b) n (protest_meaning b') good size
+protest_opens b n (Err f) b' (bad, is, same) = opening_denied (protest_meaning b) n (protest_meaning b') f bad is (ap protest_meaning same)
 
 pub protest_enters : (b : ProtestBook) (a : ℕ) (p q : Ruling) (r : Outcome) (b' : ProtestBook) →
     ProtestEntered b a p q r b' → Entering (protest_meaning b) a p q r (protest_meaning b')

@@ -1,8 +1,7 @@
 // The protest book's questions and changes.
 ghost use Rattle.std.specs.Prelude.{◌≡◌, ℕ, false};
 ghost use Rattle.books.specs.ProtestBook.{lodged, protesters, protest_meaning, ProtestOpened, ProtestEntered, ProtestWithdrawn};
-ghost use Rattle.books.specs.Protests.{protests_lawful, protest_enters, protest_withdraws};
-ghost use Rattle.std.proofs.Common.{rules, arith};
+ghost use Rattle.books.specs.Protests.{protests_lawful, protest_opens, protest_enters, protest_withdraws};
 
 use super::ProtestBook;
 use crate::book::Book;
@@ -36,7 +35,7 @@ impl Book for ProtestBook {
 
     ghost lawful = { protests_lawful };
 
-    ghost opens = { first_of (Prim.search rules, Prim.grind (arith, Self.row.coded.inj)) };
+    ghost opens = { protest_opens };
 
     ghost enters = { protest_enters };
 

@@ -3,7 +3,6 @@ ghost use Rattle.std.specs.Prelude.{◌≡◌, []};
 ghost use Rattle.books.specs.RuleBook.{entries, meaning_of, Opened, Entered, Withdrawn};
 ghost use Rattle.books.specs.EntriesLemmas.{entries_lawful};
 ghost use Rattle.books.specs.PromiseLemmas as Promise;
-ghost use Rattle.std.proofs.Common.{rules, arith};
 
 use super::RuleBook;
 use crate::book::Book;
@@ -35,7 +34,7 @@ impl Book for RuleBook {
 
     ghost lawful = { λ b. entries_lawful b.size (entries b) b.least b.most b.heads b.bodies };
 
-    ghost opens = { first_of (Prim.search rules, Prim.grind (arith, Self.row.coded.inj)) };
+    ghost opens = { Promise.opens };
 
     ghost enters = { Promise.enters };
 
