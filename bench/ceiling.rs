@@ -55,7 +55,7 @@ impl fmt::Display for Ruling {
         write!(f, "{{")?;
         let mut first = true;
         for point in (0..128).filter(|&point| self.has(point)) {
-            write!(f, "{}{point}", if first { "" } else { "," })?;
+            write!(f, "{}{point}", if first { "" } else { ", " })?;
             first = false;
         }
         write!(f, "}}")

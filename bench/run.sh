@@ -1,18 +1,19 @@
 #!/bin/sh
 # Times the listing at the ceiling of effort: the proved program beside a plain Rust program with the same algorithm.
 # Both must print the same. Each is run 20 times; the least user time of each is shown, and their ratio.
-# Needs rustc, and the proved program: `rt check ceiling` builds it.
+# Needs rustc, and the proved program: `rt run` in crates/ceiling builds it.
 set -eu
 cd "$(dirname "$0")/.."
-[ -x target/bin/ceiling ] || rt check ceiling
+program=crates/ceiling/out/ceiling
+[ -x "$program" ] || (cd crates/ceiling && rt run >/dev/null)
 made=$(mktemp -d)
 trap 'rm -rf "$made"' EXIT
 rustc --edition 2021 -C opt-level=3 -o "$made/plain" bench/ceiling.rs
-target/bin/ceiling >"$made/proved.out"
+"$program" >"$made/proved.out"
 "$made/plain" >"$made/plain.out"
 cmp "$made/proved.out" "$made/plain.out" || { echo "the two programs do not print the same" >&2; exit 1; }
 head -n 1 "$made/proved.out"
-python3 - target/bin/ceiling "$made/plain" <<'PY'
+python3 - "$program" "$made/plain" <<'PY'
 import resource, subprocess, sys
 
 def least(program):

@@ -2,4 +2,5 @@
 pub mod Faults
 pub mod Verdicts
 pub mod AuditRows
+-- Lemmas, which a trait's law cites: that order is strict and total.
 pub mod AuditOrder

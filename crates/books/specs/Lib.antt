@@ -7,10 +7,11 @@ pub mod Protesters
 pub mod ProtestBook
 pub mod Framework
 pub mod PartialEvaluation
-pub mod Protests
+-- Lemmas, which the laws of both sorts of book cite: that they keep what every book promises.
 pub mod Tests
-pub mod EntriesLemmas
 pub mod Any
-pub mod Faults
+pub mod EntriesLemmas
 pub mod ProgramLemmas
+pub mod Faults
 pub mod PromiseLemmas
+pub mod Protests

@@ -2,7 +2,7 @@
 #![tactic(auto)]
 
 #[cfg(test)]
-mod chapters;
+mod by_chapters;
 #[cfg(test)]
 mod judging;
 #[cfg(test)]
