@@ -7,6 +7,8 @@ mod protesters;
 mod rule_book;
 mod table;
 
+// What a change answers where it is denied.
+pub use answers::{Fault, Layer, Refusal};
 pub use book::Book;
 pub use protest_book::ProtestBook;
 pub use protest_book::published::{

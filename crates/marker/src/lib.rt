@@ -4,4 +4,6 @@
 mod levels;
 mod marker;
 
+// What the questions answer.
+pub use answers::{ChapterVerdict, Listing, UpwardReading, Verdict};
 pub use marker::Marker;
