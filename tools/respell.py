@@ -4,9 +4,13 @@
 usage: python3 tools/respell.py [--list]     at the top of the repository, once, after a turn to a newer Rattle
 
 A name of ours that has hyphens is written with underscores (`closure-splits` becomes `closure_splits`), and in camel
-case if it begins with a capital (`Points-below-128` becomes `PointsBelow128`). Left alone: names that the check makes
-(answers and invariants, and what follows `c.` or `l.` there), names of std and its lemmas, strings and comments of
-code. With --list it only prints the names, and those that would fall together with another.
+case if it begins with a capital (`Points-below-128` becomes `PointsBelow128`). Left alone: the names that a file gives
+to goals of the check, names that a file imports from std and the like, whole-line comments, and strings of code.
+
+It goes by text, and it refuses nothing. First look at what --list prints: the names, and those that would fall
+together with another word of the repository (a function of the code by the same name is no harm; APART gives another
+spelling where a definition or a lemma is). A field that the check makes and that is spelled as a name of ours is turned
+too: the check then names it. Must-fail edits are not looked at.
 """
 
 import glob

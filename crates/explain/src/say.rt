@@ -76,7 +76,7 @@ pub(crate) fn answer(rt: &HostRuntime, answer: &Answer) -> io::Result<()> {
     }
 }
 
-// As in `2 rulings, effort 12: {1} {0,2,3}`.
+// As in `2 rulings, effort 12: {1} {0, 2, 3}`.
 fn listing(rt: &HostRuntime, rows: &[Ruling], effort: u32) -> io::Result<()> {
     let count = rows.len();
     let noun = if count == 1 { "ruling" } else { "rulings" };

@@ -102,10 +102,10 @@ pub length_numbers : (c n : ℕ) → length (numbers c n) ≡ n
 length_numbers c zero = refl
 length_numbers c (suc n) = ap suc (length_numbers (suc c) n)
 
-pub getD_numbers : (c n i d : ℕ) → i < n → get_or (numbers c n) i d ≡ c + i
-getD_numbers c zero i d h = absurd (omega arith)
-getD_numbers c (suc n) zero d h = omega arith
-getD_numbers c (suc n) (suc i) d h = getD_numbers (suc c) n i d (omega arith) ∙ omega arith
+pub get_or_numbers : (c n i d : ℕ) → i < n → get_or (numbers c n) i d ≡ c + i
+get_or_numbers c zero i d h = absurd (omega arith)
+get_or_numbers c (suc n) zero d h = omega arith
+get_or_numbers c (suc n) (suc i) d h = get_or_numbers (suc c) n i d (omega arith) ∙ omega arith
 
 pub numbers_has : (c n j : ℕ) → ContainsAt (numbers c n) j → (c ≤ j) × (j < c + n)
 numbers_has c zero j h = absurd (has_none j h)
@@ -118,7 +118,7 @@ numbers_has c (suc n) j h =
 pub has_numbers : (c n j : ℕ) → c ≤ j → j < c + n → ContainsAt (numbers c n) j
 has_numbers c n j h l =
     let i : j ≡ c + (j - c) = omega arith in
-    (j - c, rw (length_numbers c n) (omega arith), λ d. getD_numbers c n (j - c) d (omega arith) ∙ sym i)
+    (j - c, rw (length_numbers c n) (omega arith), λ d. get_or_numbers c n (j - c) d (omega arith) ∙ sym i)
 
 pub distinct_numbers : (c n : ℕ) → Distinct (numbers c n)
 distinct_numbers c zero = tt

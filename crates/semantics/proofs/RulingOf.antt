@@ -10,7 +10,7 @@ use Rattle.rulings.proofs.Bytes.{has_past, same_points}
 use Rattle.semantics.specs.Listing.{count_below}
 use Rattle.semantics.specs.Walk.{numbers}
 use Rattle.semantics.proofs.Tests.{not_true}
-use Rattle.semantics.proofs.Joined.{length_numbers, getD_numbers}
+use Rattle.semantics.proofs.Joined.{length_numbers, get_or_numbers}
 use Rattle.semantics.proofs.Subsets.{number_of, number_below, number_digit}
 
 every : Points
@@ -44,7 +44,7 @@ bytes_at : (x : Points) (i : ℕ) → i < 16 → get_or (bytes_of x) i 0 ≡ byt
 unfolding bytes_of
 bytes_at x i h =
     get_or-map (byte_of x) (numbers 0 16) i 0 0 (let l = length_numbers 0 16 in omega arith)
-    ∙ ap (byte_of x) (getD_numbers 0 16 i 0 h ∙ omega arith)
+    ∙ ap (byte_of x) (get_or_numbers 0 16 i 0 h ∙ omega arith)
 
 bytes_small : (x : Points) (i : ℕ) → get_or (bytes_of x) i 0 < 256
 bytes_small x i =

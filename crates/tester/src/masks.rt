@@ -97,7 +97,7 @@ impl Mask {
     }
 }
 
-// The points in braces, as in `{0,2,3}`.
+// The points in braces, as in `{0, 2, 3}`.
 impl fmt::Display for Mask {
     fn fmt<W: fmt::Write>(&self, f: &mut fmt::Formatter<W>) -> fmt::Result {
         write!(f, "{{")?;
@@ -105,7 +105,7 @@ impl fmt::Display for Mask {
         for point in 0..8u8 {
             if self.has(point) {
                 if !first {
-                    write!(f, ",")?;
+                    write!(f, ", ")?;
                 }
                 write!(f, "{point}")?;
                 first = false;
