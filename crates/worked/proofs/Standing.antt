@@ -8,7 +8,7 @@ use Rattle.rulings.specs.Rulings.{has}
 use Rattle.rulings.specs.declared.ruling.Ruling.{Ruling}
 use Rattle.semantics.specs.Walk.{numbers}
 use Rattle.semantics.proofs.Tests.{false_is_not_true, and_both, or_split, not_true}
-use Rattle.semantics.proofs.Joined.{length_numbers, getD_numbers}
+use Rattle.semantics.proofs.Joined.{length_numbers, get_or_numbers}
 use Rattle.semantics.proofs.RulingOf.{ruling_of, ruling_of_same}
 use Rattle.semantics.proofs.Ways.{map_has}
 use Rattle.books.specs.declared.table.Entry.{Entry}
@@ -153,7 +153,7 @@ rows_are n most pairs h a c = elim (cases_lt a 128) [ inl l ↦ here l | inr l �
     here l =
         ap (λ (x : Points). x c)
         (get_or-map has (map of_point (numbers 0 128)) a (of_point 0) (λ _. false) (omega (arith, long))
-        ∙ (ap has (get_or-map of_point (numbers 0 128) a 0 (of_point 0) (omega (arith, length_numbers 0 128)) ∙ ap of_point (getD_numbers 0 128 a 0 l ∙ omega arith)) ∙ is))
+        ∙ (ap has (get_or-map of_point (numbers 0 128) a 0 (of_point 0) (omega (arith, length_numbers 0 128)) ∙ ap of_point (get_or_numbers 0 128 a 0 l ∙ omega arith)) ∙ is))
 
     past : 128 ≤ a → row (rows_of pairs) a c ≡ protested pairs a c
     past l =
