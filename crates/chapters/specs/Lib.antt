@@ -1,4 +1,3 @@
--- The table of chapters, readings of a higher chapter, and what is seen of a book.
+-- The table of chapters, and readings of a higher chapter.
 pub mod Table
 pub mod Fitting
-pub mod Views

@@ -6,7 +6,7 @@ ghost use Rattle.semantics.specs.Closure.{Stable};
 ghost use Rattle.semantics.specs.Walk.{spread};
 
 use crate::closures::closure;
-use crate::view::View;
+use crate::operator::Chapter;
 use books::Book;
 use rulings::Ruling;
 
@@ -31,6 +31,12 @@ pub fn spread(points: Ruling, number: u16) -> Ruling
 pub fn is_stable_over<B: Book>(book: &B, points: Ruling, lower: Ruling, part: Ruling) -> bool
     ensures { (result ≡ true) ↔ Stable (restricted (B.Book.meaning book.now) (has points) (has lower) (has lower)) (has part) }
 {
-    let closure = closure(book, View::of_chapter(points, lower, lower), part);
+    let chapter = Chapter {
+        book,
+        points,
+        granted: lower,
+        open: lower,
+    };
+    let closure = closure(&chapter, part);
     part.is_part_of(closure) && closure.is_part_of(part)
 }

@@ -5,12 +5,12 @@ mod candidates;
 mod chapters;
 mod closures;
 mod fitting;
+mod operator;
 mod reading;
-mod view;
 
 pub use candidates::{is_stable_over, spread};
 pub use chapters::Chapters;
 pub use closures::closure;
 pub use fitting::{first_upward, reads_upward};
+pub use operator::{Chapter, Operator, Whole};
 pub use reading::{Reading, least_pair};
-pub use view::View;

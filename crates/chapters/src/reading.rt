@@ -1,11 +1,9 @@
 // Pairs of rulings: what is sure, and what is possible.
 ghost use Rattle.rulings.specs.Rulings.{has};
 ghost use Rattle.semantics.specs.WellFounded.{LeastPair};
-ghost use Rattle.chapters.specs.Views.{seen};
 
 use crate::closures::closure;
-use crate::view::View;
-use books::Book;
+use crate::operator::Operator;
 use rulings::Ruling;
 
 #[derive(Clone, Copy)]
@@ -14,20 +12,20 @@ pub struct Reading {
     pub possible: Ruling,
 }
 
-// The least alternating pair: sure is the closure of possible in the one view of the book, possible the closure of sure in the other.
+// The least alternating pair: sure is the closure of possible by the one, possible the closure of sure by the other.
 // From no sure point on, one closure follows the other until nothing is new.
-pub fn least_pair<B: Book>(book: &B, for_sure: View, for_possible: View) -> Reading
-    ensures { LeastPair (seen (B.Book.meaning book.now) for_sure) (seen (B.Book.meaning book.now) for_possible) (has result.sure) (has result.possible) }
+pub fn least_pair<M: Operator, W: Operator>(for_sure: &M, for_possible: &W) -> Reading
+    ensures { LeastPair (M.Operator.meant for_sure.now) (W.Operator.meant for_possible.now) (has result.sure) (has result.possible) }
 {
     let mut sure = Ruling::empty();
-    for _turn in 0..book.size() {
-        let possible = closure(book, for_possible, sure);
-        let next = closure(book, for_sure, possible);
+    for _turn in 0..for_sure.size() {
+        let possible = closure(for_possible, sure);
+        let next = closure(for_sure, possible);
         if next.is_part_of(sure) {
             return Reading { sure, possible };
         }
         sure = next;
     }
-    let possible = closure(book, for_possible, sure);
+    let possible = closure(for_possible, sure);
     Reading { sure, possible }
 }

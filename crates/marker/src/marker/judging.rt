@@ -7,7 +7,7 @@ ghost use Rattle.chapters.specs.Table.{chapter_of};
 use super::Marker;
 use answers::{ChapterVerdict, Fault, Layer, Refusal, Verdict};
 use books::Book;
-use chapters::{View, closure, first_upward};
+use chapters::{Chapter, Whole, closure, first_upward};
 use rulings::Ruling;
 
 impl<B: Book> Marker<B> {
@@ -19,8 +19,8 @@ impl<B: Book> Marker<B> {
         if let Some(point) = ruling.first_from(self.book.size()) {
             return Err(Fault::new(Layer::Marker, Refusal::StrayMark(point)));
         }
-        let closure = closure(&self.book, View::whole(), ruling);
-        Ok(compare(ruling, closure))
+        let whole = Whole { book: &self.book };
+        Ok(compare(ruling, closure(&whole, ruling)))
     }
 
     // Compares each part of the ruling with its closure in its chapter, up to the first that is not stable.
@@ -50,8 +50,13 @@ impl<B: Book> Marker<B> {
     {
         let part = self.chapters.part_in(number, ruling);
         let lower = self.chapters.part_below(number, ruling);
-        let chapter = View::of_chapter(self.chapters.points_of(number), lower, lower);
-        compare(part, closure(&self.book, chapter, part))
+        let chapter = Chapter {
+            book: &self.book,
+            points: self.chapters.points_of(number),
+            granted: lower,
+            open: lower,
+        };
+        compare(part, closure(&chapter, part))
     }
 }
 

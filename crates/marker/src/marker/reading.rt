@@ -9,7 +9,7 @@ ghost use Rattle.semantics.specs.WellFounded.{PartRead};
 use super::Marker;
 use answers::{Fault, Layer, Refusal};
 use books::Book;
-use chapters::{Reading, View, first_upward, least_pair};
+use chapters::{Chapter, Reading, first_upward, least_pair};
 use rulings::Ruling;
 
 impl<B: Book> Marker<B> {
@@ -46,9 +46,19 @@ impl<B: Book> Marker<B> {
         ensures { AddsChapter (B.Book.meaning (book_of self.now)) (chapter_of (chapters_of self.now)) number below result }
     {
         let points = self.chapters.points_of(number);
-        let for_sure = View::of_chapter(points, below.sure, below.possible);
-        let for_possible = View::of_chapter(points, below.possible, below.sure);
-        let part = least_pair(&self.book, for_sure, for_possible);
+        let for_sure = Chapter {
+            book: &self.book,
+            points,
+            granted: below.sure,
+            open: below.possible,
+        };
+        let for_possible = Chapter {
+            book: &self.book,
+            points,
+            granted: below.possible,
+            open: below.sure,
+        };
+        let part = least_pair(&for_sure, &for_possible);
         Reading {
             sure: below.sure.union(part.sure),
             possible: below.possible.union(part.possible),

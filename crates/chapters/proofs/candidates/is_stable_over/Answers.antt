@@ -26,18 +26,11 @@ module _ (m : Meaning) (x X : Points) (c : IsClosure m x X) where
 
 pub returns-then-is_part_of : goal.returns-then-is_part_of
 returns-then-is_part_of g c =
-    let m = g.B.Book.meaning c.args.book.now in
-    let w = restricted m (has c.args.points) (has c.args.lower) (has c.args.lower) in
-    let part = has c.args.part in
-    let X = has c.closure-closure.result in
-    stable_then w part X (subst (λ (v : Meaning). IsClosure v part X) (c.of_chapter.ensures m) c.closure-closure.ensures) c.is_part_of-then-is_part_of.result
+    stable_then (restricted (g.B.Book.meaning c.args.book.now) (has c.args.points) (has c.args.lower) (has c.args.lower))
+    (has c.args.part) (has c.closure-closure.result) c.closure-closure.ensures c.is_part_of-then-is_part_of.result
     (c.is_part_of.ensures.0 c.if-is_part_of.true) c.is_part_of-then-is_part_of.ensures
 
 pub returns-else-is_part_of : goal.returns-else-is_part_of
 returns-else-is_part_of g c =
-    let m = g.B.Book.meaning c.args.book.now in
-    let w = restricted m (has c.args.points) (has c.args.lower) (has c.args.lower) in
-    let part = has c.args.part in
-    let X = has c.closure-closure.result in
-    stable_else w part X (subst (λ (v : Meaning). IsClosure v part X) (c.of_chapter.ensures m) c.closure-closure.ensures) c.is_part_of.result
-    c.is_part_of.ensures c.if-is_part_of.false
+    stable_else (restricted (g.B.Book.meaning c.args.book.now) (has c.args.points) (has c.args.lower) (has c.args.lower))
+    (has c.args.part) (has c.closure-closure.result) c.closure-closure.ensures c.is_part_of.result c.is_part_of.ensures c.if-is_part_of.false

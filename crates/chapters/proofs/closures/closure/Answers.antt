@@ -1,36 +1,26 @@
 use Rattle.std.proofs.Common.{arith}
 use Rattle.rulings.specs.Rulings.{has}
-use Rattle.chapters.specs.Views.{seen}
 use Rattle.chapters.proofs.Turns.{turn_none, turn_more, turn_settled, turns_done}
-use Rattle.chapters.proofs.Views.{seen_lawful}
 use Rattle.chapters.proofs.closures.closure.Goals as goal
 
 pub loop-turn-init : goal.loop-turn-init
 loop-turn-init g c =
-    let b = c.args.book.now in
-    let v = c.args.view in
-    let m = g.B.Book.meaning b in
-    turn_none (seen m v) (seen_lawful m (g.met.B.Book.lawful b) v) (has c.args.y) (has c.empty-x.result) c.empty-x.ensures
+    let b = c.args.operator.now in
+    turn_none (g.O.Operator.meant b) (g.met.O.Operator.lawful b) (has c.args.y) (has c.empty-x.result) c.empty-x.ensures
 
 pub returns-then-is_part_of : goal.returns-then-is_part_of
 returns-then-is_part_of g c =
-    let b = c.args.book.now in
-    let v = c.args.view in
-    let m = g.B.Book.meaning b in
-    turn_settled (seen m v) (seen_lawful m (g.met.B.Book.lawful b) v) (has c.args.y) c.loop-turn._turn (has c.loop-turn.x) (has c.derived-next.result)
+    let b = c.args.operator.now in
+    turn_settled (g.O.Operator.meant b) (g.met.O.Operator.lawful b) (has c.args.y) c.loop-turn._turn (has c.loop-turn.x) (has c.derived-next.result)
     c.loop-turn.invariant c.derived-next.ensures (c.is_part_of.ensures.0 c.if-is_part_of.true)
 
 pub loop-turn-preserved : goal.loop-turn-preserved
 loop-turn-preserved g c =
-    let b = c.args.book.now in
-    let v = c.args.view in
-    let m = g.B.Book.meaning b in
-    turn_more (seen m v) (seen_lawful m (g.met.B.Book.lawful b) v) (has c.args.y) c.loop-turn._turn (has c.loop-turn.x) (has c.derived-next.result)
+    let b = c.args.operator.now in
+    turn_more (g.O.Operator.meant b) (g.met.O.Operator.lawful b) (has c.args.y) c.loop-turn._turn (has c.loop-turn.x) (has c.derived-next.result)
     c.loop-turn.invariant c.derived-next.ensures
 
 pub returns : goal.returns
 returns g c =
-    let b = c.args.book.now in
-    let v = c.args.view in
-    let m = g.B.Book.meaning b in
-    turns_done (seen m v) (seen_lawful m (g.met.B.Book.lawful b) v) (has c.args.y) c.loop-turn._turn (has c.loop-turn.x) (omega (arith, c.size-turn-end.ensures)) c.loop-turn.invariant
+    let b = c.args.operator.now in
+    turns_done (g.O.Operator.meant b) (g.met.O.Operator.lawful b) (has c.args.y) c.loop-turn._turn (has c.loop-turn.x) (omega (arith, c.size-turn-end.ensures)) c.loop-turn.invariant

@@ -3,16 +3,14 @@ use Rattle.rulings.specs.Points.{Points}
 use Rattle.rulings.specs.Rulings.{has}
 use Rattle.rulings.specs.declared.ruling.Ruling.{Ruling}
 use Rattle.chapters.proofs.Filling.{FilledBelow, filled_more_in, filled_more_out, filled_all}
-use Rattle.chapters.specs.Views.{seen}
-use Rattle.chapters.proofs.Views.{seen_lawful}
 use Rattle.chapters.proofs.closures.derived.Goals as goal
 use Rattle.chapters.proofs.closures.derived.Goals.{then-derives, else-derives}
 
 pub loop-point-preserved : goal.loop-point-preserved
 loop-point-preserved g c =
-    let m = g.B.Book.meaning c.args.book.now in
-    let few = (g.met.B.Book.lawful c.args.book.now).few_points in
-    let d : Points = (seen m c.args.view).derives (has c.args.x) (has c.args.y) in
+    let m = g.O.Operator.meant c.args.operator.now in
+    let few = (g.met.O.Operator.lawful c.args.operator.now).few_points in
+    let d : Points = m.derives (has c.args.x) (has c.args.y) in
     let n = c.loop-point.point in
     elim c.if-derives.branch [
       | then-derives w ↦
@@ -25,8 +23,8 @@ loop-point-preserved g c =
 
 pub returns : goal.returns
 returns g c =
-    let m = g.B.Book.meaning c.args.book.now in
-    let l = seen_lawful m (g.met.B.Book.lawful c.args.book.now) c.args.view in
-    filled_all c.loop-point.point ((seen m c.args.view).derives (has c.args.x) (has c.args.y)) (has c.loop-point.next)
+    let m = g.O.Operator.meant c.args.operator.now in
+    let l = g.met.O.Operator.lawful c.args.operator.now in
+    filled_all c.loop-point.point (m.derives (has c.args.x) (has c.args.y)) (has c.loop-point.next)
     (λ a h. omega (arith, l.derives_inside (has c.args.x) (has c.args.y) a h, c.size-point-end.ensures, c.loop-point-test.false))
     c.loop-point.invariant

@@ -1,7 +1,6 @@
 use Rattle.rulings.specs.Rulings.{has}
-use Rattle.chapters.specs.Views.{seen}
 use Rattle.chapters.proofs.Filling.{FilledBelow}
 use Rattle.chapters.proofs.closures.derived.Given as goal
 
 abbrev pub invariant-loop-point : goal.invariant-loop-point
-invariant-loop-point g l = FilledBelow l.point ((seen (g.B.Book.meaning l.book) l.view).derives (has l.x) (has l.y)) (has l.next)
+invariant-loop-point g l = FilledBelow l.point ((g.O.Operator.meant l.operator).derives (has l.x) (has l.y)) (has l.next)
