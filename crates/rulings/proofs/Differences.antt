@@ -1,13 +1,12 @@
 -- The first point on which two rulings differ: it stands in the first byte that differs.
-use Rattle.std.proofs.Common.{◌≡◌, ℕ, ◌+◌, ◌-◌, ◌*◌, ◌%◌, ◌<◌, ◌≤◌, Bool, true, false, Some, sym, refl, ap, ◌∙◌, subst, inl, inr, mod-eq_of_lt, arith}
+use Rattle.std.proofs.Common.{◌≡◌, ℕ, ◌+◌, ◌-◌, ◌*◌, ◌%◌, ◌<◌, ◌≤◌, false, Some, sym, ap, ◌∙◌, subst, inl, inr, mod-eq_of_lt, arith}
 use mathlib.Core.Bool.{xor}
 use lib.Bits.{bit_or, bit_xor, or_shifted}
 use Rattle.std.proofs.lemmas.Bool.{cases_lt, both_ways}
 use Rattle.rulings.specs.Points.{Lowest}
-use Rattle.rulings.specs.Rulings.{digit, byte, has, differing}
+use Rattle.rulings.specs.Rulings.{digit, byte, differing}
 use Rattle.rulings.specs.declared.ruling.Ruling.{Ruling}
 use Rattle.rulings.proofs.Bitwise.{xor_bitwise, combined_below, digit_combined}
-use Rattle.rulings.proofs.Bytes.{same_points}
 use Rattle.rulings.proofs.Digits.{digit_past}
 
 -- the digits in which the bytes at a place differ
@@ -43,23 +42,3 @@ module _ (r s : Ruling) (i : ℕ) (before : (a : ℕ) → a < i * 8 → differin
 
       place : bit_or (i * 8 % 256) k ≡ i * 8 + k
       place = ap (λ (n : ℕ). bit_or n k) (mod-eq_of_lt (omega arith)) ∙ or_shifted i 3 k small
-
--- rulings that differ at no point are the same
-pub same_where_none_differs : (r s : Ruling) → ((a : ℕ) → differing r s a ≡ false) → r ≡ s
-unfolding xor
-same_where_none_differs r s none = same_points r s (λ a h. alike (has r a) (has s a) (none a))
-  where
-    alike : (x y : Bool) → xor x y ≡ false → x ≡ y
-    alike true true e = refl
-    alike false false e = refl
-    alike true false e = e
-    alike false true e = sym e
-
--- and a point on which they differ sets them apart
-pub apart_where_one_differs : (r s : Ruling) (a : ℕ) → differing r s a ≡ true → r ≡ s → ⊥
-unfolding xor
-apart_where_one_differs r s a one e = both_ways (xor (has s a) (has s a)) (alike (has s a)) (subst (λ (t : Ruling). differing t s a ≡ true) e one)
-  where
-    alike : (x : Bool) → xor x x ≡ false
-    alike true = refl
-    alike false = refl

@@ -84,19 +84,3 @@ restricted_alike m l D D' U V agree = fun_ext (λ x. fun_ext (λ y. fun_ext (λ 
         (subst (λ (t : Bool). t ≡ true)
         (l.local (joined E U x) (joined E V y) (joined E' U x) (joined E' V y) a (λ b r. let s = (l.reads_inside a b r).1 in (put U x b s, put V y b s)))
         p.1)
-
--- restricted to all its points, with no other looked up, a book derives as it does
-pub whole_alike : (m : Meaning) → Lawful m → (D U V : Points) → ((a : ℕ) → a < m.size → D a ≡ true) → ((a : ℕ) → U a ≡ false) → ((a : ℕ) → V a ≡ false) →
-    DeriveAlike (restricted m D U V) m
-whole_alike m l D U V all none_granted none_open = fun_ext (λ x. fun_ext (λ y. fun_ext (λ a.
-    both_ways ((restricted m D U V).derives x y a) (m.derives x y a)
-    (λ h. subst (λ (t : Bool). t ≡ true) (same x y a) (and_both (D a) _ h).1)
-    (λ h. and_of _ _ (all a (l.derives_inside x y a h)) (subst (λ (t : Bool). t ≡ true) (sym (same x y a)) h)))))
-  where
-    looked_up : (W x : Points) → ((b : ℕ) → W b ≡ false) → (b : ℕ) → b < m.size → under D W x b ≡ x b
-    looked_up W x none b s = rw (none b, all b s) refl
-
-    same : (x y : Points) (a : ℕ) → m.derives (under D U x) (under D V y) a ≡ m.derives x y a
-    same x y a =
-        l.local (under D U x) (under D V y) x y a
-        (λ b r. let s = (l.reads_inside a b r).1 in (looked_up U x none_granted b s, looked_up V y none_open b s))
