@@ -1,46 +1,55 @@
--- The order of an audit's rows is strict and total.
-use Rattle.std.specs.Prelude.{◌≡◌, ℕ, ◌⊎◌}
-use Rattle.std.proofs.Common.{sym, ap, ◌∙◌, inl, inr, arith}
-use Rattle.std.proofs.lemmas.Bool.{cases_order}
-use Rattle.rulings.specs.Order.{StrictTotal}
+-- The order of an audit's rows is that of comparing them, so it is strict and total.
+use Rattle.std.specs.Prelude.{◌≡◌}
+use Rattle.std.proofs.Common.{sym, ap, ◌∙◌, inl, inr}
+use Rattle.std.specs.Cmp.{IsTotalOrder}
+use Rattle.std.specs.Ordering.{nat_cmp, ordering_then}
+use Rattle.std.specs.declared.cmp.Ordering.TheVariants.{Less, Equal}
+use Rattle.std.proofs.lemmas.Cmp.{on_total, then_total, back_total, nat_cmp_total}
+use Rattle.rulings.specs.Order.{StrictTotal, IsOrderOf}
+use Rattle.rulings.proofs.Orders.{strict_total, nat_order, nat_ties, then_less, then_equal}
 use Rattle.answers.specs.declared.audit.UpwardReading.{UpwardReading}
-use Rattle.answers.specs.AuditRows.{AuditedBefore}
+use Rattle.answers.specs.AuditRows.{AuditedBefore, audit_cmp}
 
 -- a row is its three numbers
-same_row : (r s : UpwardReading) → r.drop ≡ s.drop → r.reader ≡ s.reader → r.read ≡ s.read → r ≡ s
-same_row r s d a b =
-    ap (λ (n : ℕ). record { drop = n; reader = r.reader; read = r.read }) d
-    ∙ (ap (λ (n : ℕ). record { drop = s.drop; reader = n; read = r.read }) a ∙ ap (λ (n : ℕ). record { drop = s.drop; reader = s.reader; read = n }) b)
+same_row : (r s : UpwardReading) → s.drop ≡ r.drop → r.reader ≡ s.reader → r.read ≡ s.read → r ≡ s
+same_row r s d a b = λ i. record { drop = sym d i; reader = a i; read = b i }
 
-irreflexive : (r : UpwardReading) → AuditedBefore r r → ⊥
-irreflexive r (inl h) = omega arith
-irreflexive r (inr (e, inl h)) = omega arith
-irreflexive r (inr (e, inr (f, h))) = omega arith
-
-transitive : (r s t : UpwardReading) → AuditedBefore r s → AuditedBefore s t → AuditedBefore r t
-transitive r s t (inl h) (inl k) = inl (omega arith)
-transitive r s t (inl h) (inr (e, k)) = inl (omega arith)
-transitive r s t (inr (e, h)) (inl k) = inl (omega arith)
-transitive r s t (inr (e, inl h)) (inr (f, inl k)) = inr (e ∙ f, inl (omega arith))
-transitive r s t (inr (e, inl h)) (inr (f, inr (a, k))) = inr (e ∙ f, inl (omega arith))
-transitive r s t (inr (e, inr (a, h))) (inr (f, inl k)) = inr (e ∙ f, inl (omega arith))
-transitive r s t (inr (e, inr (a, h))) (inr (f, inr (b, k))) = inr (e ∙ f, inr (a ∙ b, omega arith))
-
-total : (r s : UpwardReading) → AuditedBefore r s ⊎ (r ≡ s) ⊎ AuditedBefore s r
-total r s =
-    elim (cases_order r.drop s.drop) [
-      | inr (inl h) ↦ inr (inr (inl h))
-      | inr (inr h) ↦ inl (inl h)
-      | inl d ↦ elim (cases_order r.reader s.reader) [
-        | inr (inl h) ↦ inl (inr (d, inl h))
-        | inr (inr h) ↦ inr (inr (inr (sym d, inl h)))
-        | inl a ↦ elim (cases_order r.read s.read) [
-          | inl b ↦ inr (inl (same_row r s d a b))
-          | inr (inl h) ↦ inl (inr (d, inr (a, h)))
-          | inr (inr h) ↦ inr (inr (inr (sym d, inr (sym a, h))))
-        ]
+less_is : (r s : UpwardReading) → audit_cmp r s ≡ Less → AuditedBefore r s
+less_is r s e =
+    elim (then_less (ordering_then (nat_cmp s.drop r.drop) (nat_cmp r.reader s.reader)) (nat_cmp r.read s.read) e) [
+      | inl ahead ↦ elim (then_less (nat_cmp s.drop r.drop) (nat_cmp r.reader s.reader) ahead) [
+        | inl d ↦ inl ((nat_order.less s.drop r.drop).0 d)
+        | inr (d, a) ↦ inr (sym (nat_order.same s.drop r.drop d), inl ((nat_order.less r.reader s.reader).0 a))
       ]
+      | inr (tied, b) ↦
+          let both = then_equal _ _ tied in
+          inr (sym (nat_order.same s.drop r.drop both.0), inr (nat_order.same r.reader s.reader both.1, (nat_order.less r.read s.read).0 b))
     ]
 
+is_less : (r s : UpwardReading) → AuditedBefore r s → audit_cmp r s ≡ Less
+is_less r s (inl h) =
+    ap (λ o. ordering_then (ordering_then o (nat_cmp r.reader s.reader)) (nat_cmp r.read s.read)) ((nat_order.less s.drop r.drop).1 h)
+is_less r s (inr (d, inl h)) =
+    ap (λ o. ordering_then (ordering_then o (nat_cmp r.reader s.reader)) (nat_cmp r.read s.read)) (nat_ties s.drop r.drop (sym d))
+    ∙ ap (λ o. ordering_then o (nat_cmp r.read s.read)) ((nat_order.less r.reader s.reader).1 h)
+is_less r s (inr (d, inr (a, h))) =
+    ap (λ o. ordering_then (ordering_then o (nat_cmp r.reader s.reader)) (nat_cmp r.read s.read)) (nat_ties s.drop r.drop (sym d))
+    ∙ ap (λ o. ordering_then o (nat_cmp r.read s.read)) (nat_ties r.reader s.reader a)
+    ∙ (nat_order.less r.read s.read).1 h
+
+same : (r s : UpwardReading) → audit_cmp r s ≡ Equal → r ≡ s
+same r s e =
+    let outer = then_equal _ _ e in
+    let inner = then_equal _ _ outer.0 in
+    same_row r s (nat_order.same s.drop r.drop inner.0) (nat_order.same r.reader s.reader inner.1) (nat_order.same r.read s.read outer.1)
+
+pub audit_ordered : IsOrderOf audit_cmp AuditedBefore
+audit_ordered = record { less = λ r s. (less_is r s, is_less r s); same = same }
+
+pub audit_total : IsTotalOrder audit_cmp
+audit_total =
+    then_total (then_total (back_total (on_total (λ (r : UpwardReading). r.drop) nat_cmp_total)) (on_total (λ (r : UpwardReading). r.reader) nat_cmp_total))
+    (on_total (λ (r : UpwardReading). r.read) nat_cmp_total)
+
 pub audit_order : StrictTotal AuditedBefore
-audit_order = record { irreflexive = irreflexive; transitive = transitive; total = total }
+audit_order = strict_total audit_total audit_ordered

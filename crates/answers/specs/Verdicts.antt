@@ -1,5 +1,6 @@
 -- What a verdict says: its number, whether it is stable, its point, and how it is told to others.
 use Rattle.std.specs.Prelude.{ℕ, Bool, true, false, List, [], ◌∷◌, Some, None, Option}
+use Rattle.std.specs.Option.{unwrap_or}
 use Rattle.answers.specs.declared.verdict.Verdict.{Verdict}
 use Rattle.answers.specs.declared.verdict.Verdict.TheVariants.{Stable, Unfounded, Missing}
 
@@ -22,8 +23,7 @@ verdict_point (Missing a) = Some a
 
 -- A verdict as it is told to others, in three bytes: its number, its point and its chapter, 255 where there is none.
 abbrev pub or_255 : Option ℕ → ℕ
-or_255 None = 255
-or_255 (Some a) = a
+or_255 place = unwrap_or place 255
 
 abbrev pub verdict_told : Verdict → Option ℕ → List ℕ
 verdict_told v k = verdict_number v ∷ or_255 (verdict_point v) ∷ or_255 k ∷ []

@@ -2,6 +2,7 @@
 ghost use Rattle.std.specs.Prelude.{◌≡◌};
 ghost use Rattle.answers.specs.Faults.{number, word, places, layer_number, fault_of};
 
+mod of_refusal;
 pub mod words;
 
 // Why a call was denied. A case carries the places that it names.
@@ -24,51 +25,12 @@ pub enum Refusal {
     CutRecord,
 }
 
-// Which layer denied it.
-#[derive(Clone, Copy, PartialEq, Eq, Debug)]
-pub enum Layer {
-    Book,
-    Marker,
-    Reader,
-}
-
-// A denial: the refusal and its layer, handed up unaltered.
-#[derive(Clone, Copy, PartialEq, Eq, Debug)]
-pub struct Fault {
-    refusal: Refusal,
-    layer: Layer,
-}
-
-impl Fault {
-    pub fn new(layer: Layer, refusal: Refusal) -> Fault
-        ensures { result ≡ fault_of layer refusal }
-    {
-        Fault { refusal, layer }
-    }
-
-    pub fn refusal(self) -> Refusal
-        ensures { result ≡ self.refusal }
-    {
-        let Fault { refusal, .. } = self;
-        refusal
-    }
-
-    // The number of the layer: 1 the book, 2 the marker, 3 the reader.
-    pub fn layer(self) -> u8
-        ensures { result ≡ layer_number self.layer }
-    {
-        match self.layer {
-            Layer::Book => 1,
-            Layer::Marker => 2,
-            Layer::Reader => 3,
-        }
-    }
-
+impl Refusal {
     // The number of the refusal, 1 to 15.
     pub fn number(self) -> u8
-        ensures { result ≡ number self.refusal }
+        ensures { result ≡ number self }
     {
-        match self.refusal {
+        match self {
             Refusal::BadSize => 1,
             Refusal::NoSuchPoint(_) => 2,
             Refusal::StrayMark(_) => 3,
@@ -89,9 +51,9 @@ impl Fault {
 
     // The word for the refusal.
     pub fn word(self) -> &'static str
-        ensures { result.now ≡ word self.refusal }
+        ensures { result.now ≡ word self }
     {
-        match self.refusal {
+        match self {
             Refusal::BadSize => "bad size",
             Refusal::NoSuchPoint(_) => "no such point",
             Refusal::StrayMark(_) => "stray mark",
@@ -112,9 +74,9 @@ impl Fault {
 
     // The places that the refusal names, at most two.
     pub fn places(self) -> (Option<u8>, Option<u8>)
-        ensures { result ≡ places self.refusal }
+        ensures { result ≡ places self }
     {
-        match self.refusal {
+        match self {
             Refusal::ReadsUpward(a, b) => (Some(a), Some(b)),
             Refusal::NoSuchPoint(a)
             | Refusal::StrayMark(a)
@@ -124,5 +86,49 @@ impl Fault {
             | Refusal::ChapterTooWide(a) => (Some(a), None),
             _ => (None, None),
         }
+    }
+}
+
+// Which layer denied it.
+#[derive(Clone, Copy, PartialEq, Eq, Debug)]
+pub enum Layer {
+    Book = 1,
+    Marker = 2,
+    Reader = 3,
+}
+
+impl Layer {
+    // The number of the layer, 1 to 3.
+    pub fn number(self) -> u8
+        ensures { result ≡ layer_number self }
+    {
+        self as u8
+    }
+}
+
+// A denial: the refusal and its layer, handed up unaltered.
+#[derive(Clone, Copy, PartialEq, Eq, Debug)]
+pub struct Fault {
+    refusal: Refusal,
+    layer: Layer,
+}
+
+impl Fault {
+    pub fn new(layer: Layer, refusal: Refusal) -> Fault
+        ensures { result ≡ fault_of layer refusal }
+    {
+        Fault { refusal, layer }
+    }
+
+    pub fn refusal(self) -> Refusal
+        ensures { result ≡ self.refusal }
+    {
+        self.refusal
+    }
+
+    pub fn layer(self) -> Layer
+        ensures { result ≡ self.layer }
+    {
+        self.layer
     }
 }

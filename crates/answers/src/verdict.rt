@@ -1,6 +1,6 @@
 // Verdicts on rulings.
 ghost use Rattle.std.specs.Prelude.{◌≡◌, None};
-ghost use Rattle.answers.specs.Verdicts.{verdict_number, verdict_point, verdict_told, or_255, is_stable};
+ghost use Rattle.answers.specs.Verdicts.{verdict_number, verdict_point, verdict_told, is_stable};
 
 pub mod words;
 
@@ -29,18 +29,14 @@ impl Verdict {
     pub fn is_stable(self) -> bool
         ensures { result ≡ is_stable self }
     {
-        match self {
-            Verdict::Stable => true,
-            Verdict::Unfounded(_) => false,
-            Verdict::Missing(_) => false,
-        }
+        matches!(self, Verdict::Stable)
     }
 
     // The verdict as it is told to others: its number and its point, and no chapter.
     pub fn told(self) -> [u8; 3]
         ensures { result ≡ verdict_told self None }
     {
-        [self.number(), or_255(self.point()), 255]
+        ChapterVerdict::from(self).told()
     }
 
     // The point that decided, unless the ruling is stable.
@@ -49,8 +45,7 @@ impl Verdict {
     {
         match self {
             Verdict::Stable => None,
-            Verdict::Unfounded(a) => Some(a),
-            Verdict::Missing(a) => Some(a),
+            Verdict::Unfounded(a) | Verdict::Missing(a) => Some(a),
         }
     }
 }
@@ -60,6 +55,15 @@ impl Verdict {
 pub struct ChapterVerdict {
     verdict: Verdict,
     chapter: Option<u8>,
+}
+
+// A verdict on the whole ruling names no chapter.
+impl From<Verdict> for ChapterVerdict {
+    ghost from_gives = { λ verdict r. (r.verdict ≡ verdict) × (r.chapter ≡ None) };
+
+    fn from(verdict: Verdict) -> ChapterVerdict {
+        ChapterVerdict::new(verdict, None)
+    }
 }
 
 impl ChapterVerdict {
@@ -73,35 +77,21 @@ impl ChapterVerdict {
     pub fn verdict(self) -> Verdict
         ensures { result ≡ self.verdict }
     {
-        let ChapterVerdict { verdict, .. } = self;
-        verdict
+        self.verdict
     }
 
     // The verdict as it is told to others: its number, its point and its chapter.
     pub fn told(self) -> [u8; 3]
         ensures { result ≡ verdict_told self.verdict self.chapter }
     {
-        [
-            self.verdict.number(),
-            or_255(self.verdict.point()),
-            or_255(self.chapter),
-        ]
+        let point = self.verdict.point().unwrap_or(255);
+        [self.verdict.number(), point, self.chapter.unwrap_or(255)]
     }
 
     // The lowest chapter whose part is not stable; none where all are.
     pub fn chapter(self) -> Option<u8>
         ensures { result ≡ self.chapter }
     {
-        let ChapterVerdict { chapter, .. } = self;
-        chapter
-    }
-}
-
-fn or_255(place: Option<u8>) -> u8
-    ensures { result ≡ or_255 place }
-{
-    match place {
-        Some(a) => a,
-        None => 255,
+        self.chapter
     }
 }

@@ -1,6 +1,6 @@
 -- What an entry asks for, as facts, and what a list of entries means.
-use Rattle.std.specs.Prelude.{◌≡◌, ℕ, zero, suc, ◌<◌, ◌≤◌, Bool, true, false, not, ◌&&◌, ◌||◌, ◌⊎◌, List, refl}
-use Rattle.std.proofs.Common.{sym, subst, ◌∙◌, inl, inr, arith, eq-or-lt_of_le, le_of_suc-le-suc, not-suc-le-zero, eqb-true, eq-eqb}
+use Rattle.std.specs.Prelude.{◌≡◌, ℕ, zero, suc, ◌<◌, ◌≤◌, Bool, true, false, not, ◌&&◌, ◌||◌, ◌⊎◌, ◌↔◌, List, refl}
+use Rattle.std.proofs.Common.{sym, ap, subst, ◌∙◌, inl, inr, arith, eq-or-lt_of_le, le_of_suc-le-suc, not-suc-le-zero, eqb-true, eq-eqb}
 use Rattle.std.proofs.Math.Decide.{dec_lt}
 use Rattle.rulings.specs.Points.{Points, Part, Disjoint}
 use Rattle.rulings.specs.Rulings.{has}
@@ -10,9 +10,11 @@ use Rattle.semantics.specs.Meaning.{Lawful, AgreeOnRead}
 use Rattle.semantics.proofs.Tests.{false_is_not_true, and_both, and_of, or_left, or_right, both_ways, implies_of, implies_use}
 use Rattle.std.proofs.lemmas.Bool.{not-false}
 use Rattle.books.specs.declared.table.Entry.{Entry}
-use Rattle.books.specs.Entries.{any, every_below, for_point, covers, avoids, fires, looks_at, by_entries}
+use Rattle.std.specs.List.{All, list_any}
+use Rattle.std.proofs.lemmas.List.Folds.{Any-from_list_any, list_any-from_Any}
+use Rattle.books.specs.Entries.{every_below, for_point, covers, avoids, fires, names, looks_at, by_entries}
 use Rattle.books.specs.Tests.{nand_of, nand_use, contrapositive}
-use Rattle.books.specs.Any.{any_implies, any_has, has_any}
+use Rattle.books.specs.Any.{any_implies}
 
 pub every_below_use : (n : ℕ) (test : ℕ → Bool) → every_below n test ≡ true → (b : ℕ) → b < n → test b ≡ true
 unfolding every_below
@@ -67,6 +69,13 @@ module _ (p : Points) (small : (b : ℕ) → p b ≡ true → b < 128) where
   pub avoids_of : (y : Points) → Disjoint p y → avoids y p ≡ true
   avoids_of y h = every_below_of 128 (λ c. not (p c && y c)) (λ b l. nand_of _ _ (h b))
 
+-- a test that answers containment or disjointness is the meaning's
+pub covers_is : (p : Ruling) (x : Points) (r : Bool) → (r ≡ true) ↔ Part (has p) x → r ≡ covers x (has p)
+covers_is p x r h = both_ways r (covers x (has p)) (λ t. covers_of (has p) (has_below p) x (h.0 t)) (λ t. h.1 (covers_use (has p) (has_below p) x t))
+
+pub avoids_is : (q : Ruling) (y : Points) (r : Bool) → (r ≡ true) ↔ Disjoint (has q) y → r ≡ avoids y (has q)
+avoids_is q y r h = both_ways r (avoids y (has q)) (λ t. avoids_of (has q) (has_below q) y (h.0 t)) (λ t. h.1 (avoids_use (has q) (has_below q) y t))
+
 module _ (e : Entry) where
   -- an entry that fires, in words
   pub fires_use : (a : ℕ) (x y : Points) → fires a x y e ≡ true →
@@ -96,8 +105,8 @@ module _ (e : Entry) where
 
 -- entries for points below n that name only points below n mean a lawful book
 pub entries_lawful : (n : ℕ) (es : List Entry) → 1 ≤ n → n ≤ 128 →
-    ((a : ℕ) → any (for_point a) es ≡ true → a < n) → ((a b : ℕ) → any (looks_at a b) es ≡ true → b < n) → Lawful (by_entries n es)
-entries_lawful n es some few entered read =
+    All (λ e. e.point < n) es → All (λ e. (b : ℕ) → names e b ≡ true → b < n) es → Lawful (by_entries n es)
+entries_lawful n es some few heads bodies =
     record {
       some_point = some;
       few_points = few;
@@ -106,15 +115,30 @@ entries_lawful n es some few entered read =
       fewer = λ x y y' a p. any_implies (fires a x y) (fires a x y')
           (λ e h. let f = fires_use e a x y h in fires_of e a x y' f.0 f.1 (λ b q. contrapositive (y b) (y' b) (p b) (f.2 b q))) es;
       local = λ x y x' y' a agree.
-          both_ways (any (fires a x y) es) (any (fires a x' y') es)
+          both_ways (list_any (fires a x y) es) (list_any (fires a x' y') es)
           (through a x y x' y' agree)
           (through a x' y' x y (λ b q. let s = agree b q in (sym s.0, sym s.1)));
       derives_inside = λ x y a h. entered a (any_implies (fires a x y) (for_point a) (λ e f. (and_both (for_point a e) _ f).0) es h);
       reads_inside = λ a b h. (entered a (any_implies (looks_at a b) (for_point a) (λ e f. (and_both (for_point a e) _ f).0) es h), read a b h);
     }
   where
-    through : (a : ℕ) (x y x' y' : Points) → AgreeOnRead (by_entries n es) a x y x' y' → any (fires a x y) es ≡ true → any (fires a x' y') es ≡ true
+    entered : (a : ℕ) → list_any (for_point a) es ≡ true → a < n
+    entered a h =
+        let (k, e, low, at, f) = Any-from_list_any (for_point a) es h in
+        subst (λ (c : ℕ). c < n) (ap (λ (e : Entry). e.point) at ∙ eqb-true e.point a f) (heads k e low)
+
+    read : (a b : ℕ) → list_any (looks_at a b) es ≡ true → b < n
+    read a b h =
+        let (k, e, low, at, f) = Any-from_list_any (looks_at a b) es h in
+        bodies k e low b (subst (λ (e : Entry). names e b ≡ true) (sym at) (and_both (for_point a e) _ f).1)
+
+    through : (a : ℕ) (x y x' y' : Points) → AgreeOnRead (by_entries n es) a x y x' y' → list_any (fires a x y) es ≡ true → list_any (fires a x' y') es ≡ true
     through a x y x' y' agree h =
-        let w = any_has (fires a x y) es h in
-        has_any (fires a x' y') es w.0 w.1
-        (fires_local w.0 a x y x' y' (λ b q. agree b (has_any (looks_at a b) es w.0 w.1 q)) w.2)
+        let (k, e, low, at, f) = Any-from_list_any (fires a x y) es h in
+        list_any-from_Any (fires a x' y') es (
+          k,
+          e,
+          low,
+          at,
+          fires_local e a x y x' y' (λ b q. agree b (list_any-from_Any (looks_at a b) es (k, e, low, at, q))) f,
+        )

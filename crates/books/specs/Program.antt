@@ -2,7 +2,7 @@
 -- the least precise fixpoint of the stable operator on pairs, and the partial evaluation of a chapter.
 -- The entries of a rule book are a program.
 use Rattle.std.specs.Prelude.{◌≡◌, ℕ, true, List}
-use Rattle.std.specs.List.{ContainsAt}
+use Rattle.std.specs.List.{Any}
 use Rattle.rulings.specs.Points.{Points, Part, Disjoint}
 use Rattle.rulings.specs.Rulings.{has}
 use Rattle.semantics.specs.Chapters.{in_chapter, below_chapter}
@@ -58,7 +58,7 @@ abbrev pub rule_of : Entry → Rule
 rule_of e = record { head = e.point; positive = has e.supporters; negative = has e.strikers }
 
 abbrev pub program_of : List Entry → Program
-program_of es r = (e : Entry) × ContainsAt es e × (r ≡ rule_of e)
+program_of es r = Any (λ e. r ≡ rule_of e) es
 
 -- The partial evaluation of chapter k by (U, V): the rules of the chapter's points whose lower positive body is in U
 -- and whose lower negative body has no point in V, each cut to its points in the chapter.

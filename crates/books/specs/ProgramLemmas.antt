@@ -8,9 +8,10 @@ use Rattle.semantics.specs.Closure.{Closed, IsClosure, Stable}
 use Rattle.semantics.specs.WellFounded.{WellFounded}
 use Rattle.semantics.proofs.Tests.{and_of, or_left, or_right}
 use Rattle.books.specs.declared.table.Entry.{Entry}
-use Rattle.books.specs.Entries.{any, fires, looks_at, by_entries}
+use Rattle.books.specs.Entries.{fires, looks_at, by_entries}
 use Rattle.books.specs.Program.{Rule, DefiniteRule, Program, reduct, Model, LeastModel, StableModel, LeastPrecisePair, Derives, rule_of, program_of}
-use Rattle.books.specs.Any.{any_has, has_any}
+use Rattle.std.specs.List.{list_any}
+use Rattle.std.proofs.lemmas.List.Folds.{Any-from_list_any, list_any-from_Any}
 use Rattle.books.specs.EntriesLemmas.{fires_use, fires_of}
 
 -- the meaning derives exactly what the program does
@@ -69,21 +70,27 @@ module _ (n : ℕ) (es : List Entry) where
   pub given_by_entries : GivenBy (by_entries n es) (program_of es)
   given_by_entries x y a = (by_some_rule, by_some_entry)
     where
-      by_some_rule : any (fires a x y) es ≡ true → Derives (program_of es) x y a
+      by_some_rule : list_any (fires a x y) es ≡ true → Derives (program_of es) x y a
       by_some_rule h =
-          let w = any_has (fires a x y) es h in
-          let f = fires_use w.0 a x y w.2 in
-          (rule_of w.0, (w.0, w.1, refl), f.0, f.1, f.2)
+          let (k, e, low, at, fire) = Any-from_list_any (fires a x y) es h in
+          let f = fires_use e a x y fire in
+          (rule_of e, (k, e, low, at, refl), f.0, f.1, f.2)
 
-      by_some_entry : Derives (program_of es) x y a → any (fires a x y) es ≡ true
-      by_some_entry (r, (e, h, q), at, p, d) =
-          has_any (fires a x y) es e h (fires_of e a x y
-          (subst (λ (s : Rule). s.head ≡ a) q at) (subst (λ (s : Rule). Part s.positive x) q p) (subst (λ (s : Rule). Disjoint s.negative y) q d))
+      by_some_entry : Derives (program_of es) x y a → list_any (fires a x y) es ≡ true
+      by_some_entry (r, (k, e, low, here, q), at, p, d) =
+          list_any-from_Any (fires a x y) es (
+            k,
+            e,
+            low,
+            here,
+            fires_of e a x y
+                (subst (λ (s : Rule). s.head ≡ a) q at) (subst (λ (s : Rule). Part s.positive x) q p) (subst (λ (s : Rule). Disjoint s.negative y) q d),
+          )
 
   pub reads_bodies_of_entries : ReadsBodies (by_entries n es) (program_of es)
-  reads_bodies_of_entries r (e, h, q) b =
-      subst (λ (s : Rule). (s.positive b ≡ true) ⊎ (s.negative b ≡ true) → any (looks_at s.head b) es ≡ true) (sym q)
-      (λ named. has_any (looks_at e.point b) es e h (and_of _ _ (eq-eqb e.point e.point refl) (either named)))
+  reads_bodies_of_entries r (k, e, low, here, q) b =
+      subst (λ (s : Rule). (s.positive b ≡ true) ⊎ (s.negative b ≡ true) → list_any (looks_at s.head b) es ≡ true) (sym q)
+      (λ named. list_any-from_Any (looks_at e.point b) es (k, e, low, here, and_of _ _ (eq-eqb e.point e.point refl) (either named)))
     where
       either : (has e.supporters b ≡ true) ⊎ (has e.strikers b ≡ true) → has e.supporters b || has e.strikers b ≡ true
       either (inl p) = or_left _ _ p

@@ -1,5 +1,5 @@
 -- What every book promises of its three changes, in terms of its meaning alone.
-use Rattle.std.specs.Prelude.{◌≡◌, ℕ, ◌<◌, ◌≤◌, ◌&&◌, ◌||◌, ◌⊎◌, ◌↔◌, Some, Ok, Err, Result, ◌≢◌, nat_le}
+use Rattle.std.specs.Prelude.{◌≡◌, ℕ, ◌<◌, ◌≤◌, ◌&&◌, ◌||◌, ◌⊎◌, ◌↔◌, Some, None, Ok, Err, Result, ◌≢◌, nat_le}
 use Rattle.rulings.specs.Points.{Points, Lowest}
 use Rattle.rulings.specs.Rulings.{has}
 use Rattle.rulings.specs.declared.ruling.Ruling.{Ruling}
@@ -30,6 +30,22 @@ BadSizeFor n = (n ≡ 0) ⊎ (128 < n)
 abbrev pub stray : ℕ → Points → Points
 stray n x a = nat_le n a && x a
 
+-- the points of two rulings that a book of size n does not have
+abbrev pub strays : ℕ → Ruling → Ruling → Points
+strays n p q = stray n (λ a. has p a || has q a)
+
+-- Why an entering is denied, the smaller number first: there is no such point; or a point is stray, and the lowest is
+-- named; or `own`, which the sort of book decides.
+abbrev pub EnteringDenied : ℕ → ℕ → Ruling → Ruling → (Fault → Type 0) → Fault → Type 0
+EnteringDenied n a p q own f =
+    ((f ≡ fault_of Book (NoSuchPoint a)) × (n ≤ a))
+    ⊎ (((s : ℕ) × (f ≡ fault_of Book (StrayMark s)) × (a < n) × Lowest (strays n p q) (Some s))
+    ⊎ (own f × (a < n) × Lowest (strays n p q) None))
+
+-- why a withdrawing is denied: there is no such point, or `own`, which the sort of book decides
+abbrev pub WithdrawingDenied : ℕ → ℕ → (Fault → Type 0) → Fault → Type 0
+WithdrawingDenied n a own f = ((f ≡ fault_of Book (NoSuchPoint a)) × (n ≤ a)) ⊎ (own f × (a < n))
+
 -- the answers for every point but a are as they were
 pub record SameBut (a : ℕ) (m m' : Meaning) : Type 0 where
   pub derives : (b : ℕ) → (b ≢ a) → (x y : Points) → m'.derives x y b ≡ m.derives x y b
@@ -47,7 +63,7 @@ pub record Entering (m : Meaning) (a : ℕ) (p q : Ruling) (r : Outcome) (m' : M
   pub no_such_point : Refused r (NoSuchPoint a) ↔ (m.size ≤ a)
   -- the stray point named is the lowest of both rulings
   pub stray_mark : (s : ℕ) →
-      Refused r (StrayMark s) ↔ ((a < m.size) × Lowest (stray m.size (λ b. has p b || has q b)) (Some s))
+      Refused r (StrayMark s) ↔ ((a < m.size) × Lowest (strays m.size p q) (Some s))
   pub otherwise : (f : Fault) → r ≡ Err f →
       (f ≡ fault_of Book (NoSuchPoint a)) ⊎ (((s : ℕ) × (f ≡ fault_of Book (StrayMark s))) ⊎ BySort f)
   pub accepted : r ≡ Ok tt → (m'.size ≡ m.size) × SameBut a m m'

@@ -1,26 +1,26 @@
 -- The protest book by its lodged points and their protesters: its meaning, and what each change does.
-use Rattle.std.specs.Prelude.{◌≡◌, ℕ, ◌<◌, ◌≤◌, true, false, not, ◌&&◌, ◌||◌, ◌⊎◌, Some, None, Ok, Err, ◌==◌}
+use Rattle.std.specs.Prelude.{◌≡◌, ℕ, ◌<◌, true, false, not, ◌&&◌, ◌||◌, Some, None, Ok, Err, ◌==◌}
 use Rattle.rulings.specs.Points.{Points, Lowest}
 use Rattle.rulings.specs.Rulings.{has}
 use Rattle.rulings.specs.declared.ruling.Ruling.{Ruling}
 use Rattle.semantics.specs.Meaning.{Meaning}
-use Rattle.answers.specs.declared.fault.Refusal.TheVariants.{BadSize, NoSuchPoint, StrayMark, NoSupportersHere, NothingEntered}
+use Rattle.answers.specs.declared.fault.Refusal.TheVariants.{BadSize, NoSupportersHere, NothingEntered}
 use Rattle.answers.specs.declared.fault.Layer.TheVariants.{Book}
 use Rattle.answers.specs.declared.fault.Fault.{Fault}
 use Rattle.books.specs.declared.protest_book.ProtestBook.{ProtestBook}
 use Rattle.answers.specs.Faults.{fault_of}
-use Rattle.books.specs.Promise.{Outcome, BadSizeFor, stray}
+use Rattle.books.specs.Promise.{Outcome, BadSizeFor, strays, EnteringDenied, WithdrawingDenied}
 use Rattle.books.specs.Entries.{avoids}
-use Rattle.books.specs.Protesters.{row}
+use Rattle.books.specs.Protesters.{is_lodged, protesters_of}
 use Rattle.books.specs.Program.{Program}
 
 -- the points that are lodged
 abbrev pub lodged : ProtestBook → Points
-lodged b = has b.lodged
+lodged b = is_lodged b.protesters
 
 -- the protesters of a point
 abbrev pub protesters : ProtestBook → ℕ → Points
-protesters b = row b.protesters
+protesters b = protesters_of b.protesters
 
 -- What the book means: a point derives if it is lodged and none of its protesters is in y, and reads its protesters;
 -- a point that is not lodged reads nothing.
@@ -36,36 +36,33 @@ protest_meaning b =
 abbrev pub protest_program : ProtestBook → Program
 protest_program b r = (a : ℕ) × (lodged b a ≡ true) × (r ≡ record { head = a; positive = λ _. false; negative = protesters b a })
 
--- the points of p and q that the book does not have
-abbrev pub protest_strays : ProtestBook → Ruling → Ruling → Points
-protest_strays b p q = stray b.size (λ c. has p c || has q c)
-
 -- opening: the size is set, and nothing is lodged or protested
 abbrev pub ProtestOpened : ProtestBook → ℕ → Outcome → ProtestBook → Type 0
 ProtestOpened b n (Ok _) b' =
     (BadSizeFor n → ⊥) × (b'.size ≡ n) × ((a : ℕ) → lodged b' a ≡ false) × ((a c : ℕ) → protesters b' a c ≡ false)
 ProtestOpened b n (Err f) b' = BadSizeFor n × (f ≡ fault_of Book BadSize) × (b' ≡ b)
 
--- why an entering is denied, the smaller number first
+-- why an entering is denied: for what every book denies, or for supporters, of which the lowest is named
+abbrev pub Supported : Ruling → Fault → Type 0
+Supported p f = (c : ℕ) × (f ≡ fault_of Book (NoSupportersHere c)) × Lowest (has p) (Some c)
+
 abbrev pub ProtestDenied : ProtestBook → ℕ → Ruling → Ruling → Fault → Type 0
-ProtestDenied b a p q f =
-    ((f ≡ fault_of Book (NoSuchPoint a)) × (b.size ≤ a))
-    ⊎ (((s : ℕ) × (f ≡ fault_of Book (StrayMark s)) × (a < b.size) × Lowest (protest_strays b p q) (Some s))
-    ⊎ ((c : ℕ) × (f ≡ fault_of Book (NoSupportersHere c)) × (a < b.size) × Lowest (protest_strays b p q) None × Lowest (has p) (Some c)))
+ProtestDenied b a p q = EnteringDenied b.size a p q (Supported p)
 
 -- entering: the point is lodged, and q is added to the protesters that it has
 abbrev pub ProtestEntered : ProtestBook → ℕ → Ruling → Ruling → Outcome → ProtestBook → Type 0
 ProtestEntered b a p q (Ok _) b' =
-    (a < b.size) × Lowest (protest_strays b p q) None × Lowest (has p) None × (b'.size ≡ b.size)
+    (a < b.size) × Lowest (strays b.size p q) None × Lowest (has p) None × (b'.size ≡ b.size)
     × ((c : ℕ) → lodged b' c ≡ lodged b c || c == a)
     × ((c d : ℕ) → protesters b' c d ≡ protesters b c d || (c == a && has q d))
 ProtestEntered b a p q (Err f) b' = ProtestDenied b a p q f × (b' ≡ b)
 
--- why a withdrawing is denied, the smaller number first
+-- why a withdrawing is denied: for what every book denies, or because the point is not lodged
+abbrev pub NotLodged : ProtestBook → ℕ → Fault → Type 0
+NotLodged b a f = (f ≡ fault_of Book (NothingEntered a)) × (lodged b a ≡ false)
+
 abbrev pub ProtestWithdrawDenied : ProtestBook → ℕ → Fault → Type 0
-ProtestWithdrawDenied b a f =
-    ((f ≡ fault_of Book (NoSuchPoint a)) × (b.size ≤ a))
-    ⊎ ((f ≡ fault_of Book (NothingEntered a)) × (a < b.size) × (lodged b a ≡ false))
+ProtestWithdrawDenied b a = WithdrawingDenied b.size a (NotLodged b a)
 
 -- withdrawing: the lodging of the point and its protesters are taken back
 abbrev pub ProtestWithdrawn : ProtestBook → ℕ → Outcome → ProtestBook → Type 0

@@ -1,5 +1,5 @@
 -- The protest book keeps the laws and the promise of every book, and means its program.
-use Rattle.std.specs.Prelude.{◌≡◌, ℕ, ◌<◌, Bool, true, false, ◌&&◌, ◌||◌, ◌⊎◌, Ok, Err, ◌==◌, ◌≢◌, refl}
+use Rattle.std.specs.Prelude.{◌≡◌, ℕ, ◌<◌, Bool, true, false, ◌&&◌, ◌⊎◌, Ok, Err, ◌==◌, ◌≢◌, refl}
 use Rattle.std.proofs.Common.{sym, ap, ap₂, subst, ◌∙◌, inl, inr, arith, lit≤, ne_eqb}
 use Rattle.std.proofs.Math.Path.{fun_ext}
 use Rattle.rulings.specs.Points.{Points, Disjoint}
@@ -12,10 +12,10 @@ use Rattle.books.specs.declared.protest_book.ProtestBook.{ProtestBook}
 use Rattle.books.specs.Promise.{Outcome, SameBut, Opening, Entering, Withdrawing}
 use Rattle.books.specs.Entries.{avoids}
 use Rattle.books.specs.Program.{Rule, Derives}
-use Rattle.books.specs.ProtestBook.{lodged, protesters, protest_meaning, protest_program, ProtestOpened, ProtestDenied, ProtestEntered, ProtestWithdrawDenied, ProtestWithdrawn}
+use Rattle.books.specs.ProtestBook.{Supported, NotLodged, lodged, protesters, protest_meaning, protest_program, ProtestOpened, ProtestEntered, ProtestWithdrawn}
 use Rattle.books.specs.Tests.{contrapositive, or_nothing, and_not_nothing}
 use Rattle.books.specs.EntriesLemmas.{avoids_use, avoids_of}
-use Rattle.books.specs.Faults.{EnteringFault, WithdrawingFault, entering_accepted, entering_denied, opening_accepted, opening_denied, withdrawing_accepted, withdrawing_denied}
+use Rattle.books.specs.Faults.{entering_accepted, entering_denied, opening_accepted, opening_denied, withdrawing_accepted, withdrawing_denied}
 use Rattle.books.specs.ProgramLemmas.{GivenBy, ReadsBodies}
 
 module _ (b : ProtestBook) where
@@ -97,12 +97,7 @@ protest_enters b a p q (Ok tt) b' (inside, clear, alone, size, lodging, protests
     (λ c other. lodging c ∙ or_nothing (lodged b c) (c == a) (ne_eqb c a other))
     (λ c other d. protests c d ∙ or_nothing (protesters b c d) (c == a && has q d) (ap (λ (t : Bool). t && has q d) (ne_eqb c a other))))
 protest_enters b a p q (Err f) b' (why, same) =
-    entering_denied (protest_meaning b) a p q (protest_meaning b') f (fault why) (ap protest_meaning same)
-  where
-    fault : ProtestDenied b a p q f → EnteringFault b.size a (λ c. has p c || has q c) f
-    fault (inl h) = inl h
-    fault (inr (inl h)) = inr (inl h)
-    fault (inr (inr h)) = inr (inr ((NoSupportersHere h.0, h.1, lit≤ tt, lit≤ tt), h.2, h.3))
+    entering_denied (protest_meaning b) a p q (protest_meaning b') (Supported p) f (λ h. (NoSupportersHere h.0, h.1, lit≤ tt, lit≤ tt)) why (ap protest_meaning same)
 
 pub protest_withdraws : (b : ProtestBook) (a : ℕ) (r : Outcome) (b' : ProtestBook) →
     ProtestWithdrawn b a r b' → Withdrawing (protest_meaning b) a r (protest_meaning b')
@@ -112,8 +107,4 @@ protest_withdraws b a (Ok tt) b' (inside, some, size, lodging, protests) =
     (λ c other. lodging c ∙ and_not_nothing (lodged b c) (c == a) (ne_eqb c a other))
     (λ c other d. protests c d ∙ and_not_nothing (protesters b c d) (c == a) (ne_eqb c a other)))
 protest_withdraws b a (Err f) b' (why, same) =
-    withdrawing_denied (protest_meaning b) a (protest_meaning b') f (fault why) (ap protest_meaning same)
-  where
-    fault : ProtestWithdrawDenied b a f → WithdrawingFault b.size a f
-    fault (inl h) = inl h
-    fault (inr h) = inr ((NothingEntered a, h.0, lit≤ tt, lit≤ tt), h.1)
+    withdrawing_denied (protest_meaning b) a (protest_meaning b') (NotLodged b a) f (λ h. (NothingEntered a, h.0, lit≤ tt, lit≤ tt)) why (ap protest_meaning same)

@@ -2,6 +2,7 @@
 #![tactic(auto)]
 
 mod book;
+mod checks;
 mod protest_book;
 mod protesters;
 mod rule_book;

@@ -1,9 +1,7 @@
 ghost use Rattle.std.specs.Prelude.{◌≡◌, ℕ, ◌<◌, ◌≤◌, true};
-ghost use Rattle.rulings.specs.Rulings.{has};
-ghost use Rattle.books.specs.Protesters.{row};
+ghost use Rattle.books.specs.Protesters.{is_lodged, protesters_of};
 
 use crate::protesters::Protesters;
-use rulings::Ruling;
 
 pub mod as_book;
 pub mod published;
@@ -12,11 +10,10 @@ pub mod published;
 #[derive(Drop)]
 pub struct ProtestBook {
     size: u8,
-    lodged: Ruling,
     protesters: Protesters,
     ghost least: { 1 ≤ size },
     ghost most: { size ≤ 128 },
     // only points of the book are lodged or protest
-    ghost arguments: { (a : ℕ) → has lodged a ≡ true → a < size },
-    ghost attackers: { (a c : ℕ) → row protesters a c ≡ true → c < size },
+    ghost arguments: { (a : ℕ) → is_lodged protesters a ≡ true → a < size },
+    ghost attackers: { (a c : ℕ) → protesters_of protesters a c ≡ true → c < size },
 }

@@ -1,5 +1,6 @@
-ghost use Rattle.std.specs.Prelude.{◌≡◌, ℕ, ◌<◌, ◌≤◌, true};
-ghost use Rattle.books.specs.Entries.{standing, any, for_point, looks_at};
+ghost use Rattle.std.specs.Prelude.{◌≡◌, ℕ, ◌<◌, ◌≤◌, true, length};
+ghost use Rattle.std.specs.List.{All};
+ghost use Rattle.books.specs.Entries.{standing, names};
 
 use crate::table::Table;
 
@@ -13,8 +14,8 @@ pub struct RuleBook {
     table: Table,
     ghost least: { 1 ≤ size },
     ghost most: { size ≤ 128 },
-    ghost room: { table.count ≤ 256 },
+    ghost room: { length (standing table) ≤ 256 },
     // every entry is for a point of the book, and names only points of the book
-    ghost heads: { (a : ℕ) → any (for_point a) (standing table) ≡ true → a < size },
-    ghost bodies: { (a b : ℕ) → any (looks_at a b) (standing table) ≡ true → b < size },
+    ghost heads: { All (λ e. e.point < size) (standing table) },
+    ghost bodies: { All (λ e. (b : ℕ) → names e b ≡ true → b < size) (standing table) },
 }

@@ -1,8 +1,15 @@
 // The table of entries: a plain store, changed only by its own calls.
-ghost use Rattle.std.specs.Prelude.{◌≡◌, ◌+◌, ◌<◌, ◌≤◌, not, [], ◌∷◌, ◌++◌, length, filter, nat_le};
+ghost use Rattle.std.specs.Prelude.{◌≡◌, ℕ, ◌<◌, false, not, ◌&&◌, [], ◌∷◌, ◌++◌, length, filter, OnOk, OnErr, IfErr};
+ghost use Rattle.std.specs.List.{list_any};
 ghost use Rattle.rulings.specs.Rulings.{has};
-ghost use Rattle.books.specs.Entries.{standing, any, for_point, fires, looks_at};
+ghost use Rattle.answers.specs.Faults.{fault_of};
+ghost use Rattle.answers.specs.declared.fault.Layer.TheVariants.{Book};
+ghost use Rattle.answers.specs.declared.fault.Refusal.TheVariants.{BookFull};
+ghost use Rattle.books.specs.Entries.{standing, for_point, covers, avoids, fires, names, looks_at};
 
+use crate::checks;
+use answers::{Fault, Refusal};
+use arrayvec::ArrayVec;
 use rulings::Ruling;
 
 // An entry (a rule): the point stands if all its supporters do and none of its strikers does.
@@ -13,114 +20,66 @@ pub(crate) struct Entry {
     pub(crate) strikers: Ruling,
 }
 
-// The first `count` slots stand, oldest first; the others are free.
+// The entries that stand, oldest first, at most 256.
 #[derive(Drop)]
 pub(crate) struct Table {
-    slots: [Entry; 256],
-    count: usize,
+    entries: ArrayVec<Entry, 256>,
 }
 
 impl Table {
     pub(crate) fn new() -> Table
-        ensures { result.count ≡ 0 }
+        ensures { standing result ≡ [] }
     {
-        let free = Entry {
-            point: 0,
-            supporters: Ruling::empty(),
-            strikers: Ruling::empty(),
-        };
         Table {
-            slots: [free; 256],
-            count: 0,
+            entries: ArrayVec::new(),
         }
     }
 
     pub(crate) fn clear(&mut self)
-        ensures { self.new.count ≡ 0 }
+        ensures { standing self.new ≡ [] }
     {
-        self.count = 0;
+        self.entries.clear();
     }
 
-    pub(crate) fn is_full(&self) -> bool
-        requires { self.now.count ≤ 256 }
-        ensures full { result ≡ nat_le 256 self.now.count }
-        ensures count { length (standing self.now) ≡ self.now.count }
+    // One entry more, behind the others, if there is room for it.
+    pub(crate) fn push(&mut self, entry: Entry) -> Result<(), Fault>
+        ensures room { OnOk result (length (standing self.old) < 256) }
+        ensures after { OnOk result (standing self.new ≡ standing self.old ++ entry ∷ []) }
+        ensures fault { IfErr result (λ f. f ≡ fault_of Book BookFull) }
+        ensures full { OnErr result (length (standing self.old) ≡ 256) }
+        ensures unaltered { OnErr result (self.new ≡ self.old) }
     {
-        self.standing().len() >= 256
+        let pushed = self.entries.try_push(entry);
+        pushed.map_err(|_| checks::fault(Refusal::BookFull))
     }
 
-    // One entry more, behind the others.
-    pub(crate) fn push(&mut self, entry: Entry)
-        requires { self.old.count < 256 }
-        ensures count { self.new.count ≡ self.old.count + 1 }
-        ensures after { standing self.new ≡ standing self.old ++ entry ∷ [] }
-    {
-        self.slots[self.count] = entry;
-        self.count += 1;
-    }
-
-    // Takes out every entry for the point; the others move up, in their order.
+    // Takes out every entry for the point; the others stay in their order.
     pub(crate) fn remove(&mut self, point: u8)
-        requires { self.old.count ≤ 256 }
-        ensures count { self.new.count ≤ self.old.count }
-        ensures after { standing self.new ≡ filter (λ e. not (for_point point e)) (standing self.old) }
+        ensures { standing self.new ≡ filter (λ e. not (for_point point e)) (standing self.old) }
     {
-        let mut filled = 0;
-        for i in 0..self.count {
-            let e = self.slots[i];
-            if e.point != point {
-                self.slots[filled] = e;
-                filled += 1;
-            }
-        }
-        self.count = filled;
-    }
-
-    // The entries that stand.
-    fn standing(&self) -> &[Entry]
-        requires { self.now.count ≤ 256 }
-        ensures value { result.now ≡ standing self.now }
-        ensures len { length result.now ≡ self.now.count }
-    {
-        &self.slots[0..self.count]
+        self.entries.retain(|entry| entry.point != point);
     }
 
     pub(crate) fn has_entry_for(&self, point: u8) -> bool
-        requires { self.now.count ≤ 256 }
-        ensures { result ≡ any (for_point point) (standing self.now) }
+        ensures { result ≡ list_any (for_point point) (standing self.now) }
     {
-        for e in self.standing() {
-            if e.point == point {
-                return true;
-            }
-        }
-        false
+        self.entries.iter().any(|entry| entry.point == point)
     }
 
     // Whether the point derives under the pair (x, y) by some entry.
     pub(crate) fn derives(&self, point: u8, x: Ruling, y: Ruling) -> bool
-        requires { self.now.count ≤ 256 }
-        ensures { result ≡ any (fires point (has x) (has y)) (standing self.now) }
+        ensures { result ≡ list_any (fires point (has x) (has y)) (standing self.now) }
     {
-        for e in self.standing() {
-            if e.fires(point, x, y) {
-                return true;
-            }
-        }
-        false
+        self.entries.iter().any(|entry| entry.fires(point, x, y))
     }
 
     // Whether some entry for the point has the other among its supporters or strikers.
     pub(crate) fn reads(&self, point: u8, other: u8) -> bool
-        requires { self.now.count ≤ 256 }
-        ensures { result ≡ any (looks_at point other) (standing self.now) }
+        ensures { result ≡ list_any (looks_at point other) (standing self.now) }
     {
-        for e in self.standing() {
-            if e.looks_at(point, other) {
-                return true;
-            }
-        }
-        false
+        self.entries
+            .iter()
+            .any(|entry| entry.looks_at(point, other))
     }
 }
 
@@ -129,9 +88,13 @@ impl Entry {
     fn fires(&self, point: u8, x: Ruling, y: Ruling) -> bool
         ensures { result ≡ fires point (has x) (has y) self.now }
     {
-        if self.point != point {
-            return false;
-        }
+        self.point == point && self.is_met(x, y)
+    }
+
+    // Whether x has all supporters and y no striker.
+    fn is_met(&self, x: Ruling, y: Ruling) -> bool
+        ensures { result ≡ covers (has x) (has self.now.supporters) && avoids (has y) (has self.now.strikers) }
+    {
         self.supporters.is_part_of(x) && self.strikers.is_disjoint_from(y)
     }
 
@@ -140,5 +103,18 @@ impl Entry {
         ensures { result ≡ looks_at point other self.now }
     {
         self.point == point && (self.supporters.has(other) || self.strikers.has(other))
+    }
+}
+
+// A blank entry, for a free place of the table.
+impl Default for Entry {
+    ghost is_default = { λ e. (b : ℕ) → names e b ≡ false };
+
+    fn default() -> Entry {
+        Entry {
+            point: 0,
+            supporters: Ruling::empty(),
+            strikers: Ruling::empty(),
+        }
     }
 }

@@ -1,6 +1,5 @@
 -- The turns of the loop that finds a least pair, one after another.
-use Rattle.std.proofs.Common.{◌≡◌, ℕ, ◌+◌, false, sym, ap, ◌∙◌, subst, add-one}
-use mathlib.Core.Path.{fun_ext}
+use Rattle.std.proofs.Common.{◌≡◌, ℕ, ◌+◌, sym, ap, ◌∙◌, subst, add-one}
 use Rattle.rulings.specs.Points.{Points, Part}
 use Rattle.semantics.specs.Meaning.{Meaning, Lawful}
 use Rattle.semantics.specs.Closure.{IsClosure}
@@ -10,9 +9,6 @@ use Rattle.semantics.proofs.Closures.{same_points, closure, is_closure, unique}
 use Rattle.semantics.proofs.Alternating.{two_closures, two_closures_mono, two_closures_inside, turns_within_prefixpoints, least_pair_of, sure_points, possible_points, least_pair_exists}
 
 module _ (m w : Meaning) (l : Lawful m) (v : Lawful w) where
-  pub pair_none : (s : Points) → ((a : ℕ) → s a ≡ false) → s ≡ iterate (two_closures m w) 0
-  pair_none s none = fun_ext none
-
   -- two closures, as they were found, are the two closures
   twice : (s p t : Points) → IsClosure w s p → IsClosure m p t → t ≡ two_closures m w s
   twice s p t c d =

@@ -1,5 +1,5 @@
 -- The subset with a number, filled in point by point.
-use Rattle.std.proofs.Common.{◌≡◌, ℕ, ◌+◌, ◌/◌, ◌%◌, ◌^◌, ◌<◌, true, false, sym, ap, ◌∙◌, inl, inr, pow-suc, add-one, eq-eqb, ne_eqb}
+use Rattle.std.proofs.Common.{◌≡◌, ℕ, zero, suc, ◌+◌, ◌-◌, ◌/◌, ◌%◌, ◌^◌, ◌<◌, ◌≤◌, true, false, sym, ap, ◌∙◌, inl, inr, arith, pow-suc, add-one, eq-eqb, ne_eqb}
 use native.Mathlib.Nat.{div-div-eq-div-mul}
 use Rattle.std.proofs.lemmas.Bool.{cases_lt}
 use Rattle.rulings.specs.Points.{Points}
@@ -29,6 +29,18 @@ module _ (D : Points) (c n digits : ℕ) (is : digits ≡ c / 2 ^ count_below n 
   -- it is not: the digits stay
   pub digits_same : D n ≡ false → digits ≡ c / 2 ^ count_below (n + 1) D
   digits_same d = is ∙ ap (λ (i : ℕ). c / 2 ^ i) (sym (ap (λ (i : ℕ). count_below i D) (add-one n) ∙ count_no D n d))
+
+-- no point of D is skipped: none counts, and the subset has none
+count_skip : (D : Points) (n k : ℕ) → ((i : ℕ) → n ≤ i → i < n + k → D i ≡ false) → count_below (n + k) D ≡ count_below n D
+count_skip D n zero none = ap (λ (i : ℕ). count_below i D) (omega arith)
+count_skip D n (suc k) none =
+    let e : n + suc k ≡ suc (n + k) = omega arith in
+    ap (λ (i : ℕ). count_below i D) e ∙ (count_no D (n + k) (none (n + k) (omega arith) (omega arith)) ∙ count_skip D n k (λ i low high. none i low (omega arith)))
+
+pub digits_skip : (D : Points) (c n x digits : ℕ) → n ≤ x → ((i : ℕ) → n ≤ i → i < x → D i ≡ false) → digits ≡ c / 2 ^ count_below n D → digits ≡ c / 2 ^ count_below x D
+digits_skip D c n x digits le none is =
+    let e : n + (x - n) ≡ x = omega arith in
+    is ∙ ap (λ (i : ℕ). c / 2 ^ i) (sym (ap (λ (i : ℕ). count_below i D) (sym e) ∙ count_skip D n (x - n) (λ i low high. none i low (omega arith))))
 
 -- a point of a ruling is below 128
 pub point_small : (r : Ruling) (a : ℕ) → has r a ≡ true → a < 128

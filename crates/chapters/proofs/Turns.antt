@@ -1,5 +1,5 @@
 -- The turns of the closure's loop, one after another.
-use Rattle.std.proofs.Common.{◌≡◌, ℕ, ◌+◌, false, sym, ap, ◌∙◌, subst, add-one}
+use Rattle.std.proofs.Common.{◌≡◌, ℕ, ◌+◌, sym, ap, ◌∙◌, subst, add-one}
 use mathlib.Core.Path.{fun_ext}
 use Rattle.rulings.specs.Points.{Points, Part}
 use Rattle.semantics.specs.Meaning.{Meaning, Lawful}
@@ -9,9 +9,6 @@ use Rattle.semantics.proofs.Closures.{step, settled_is_closure, closure_by_turns
 
 -- each turn takes in what derives from the one before
 module _ (m : Meaning) (l : Lawful m) (y : Points) where
-  pub turn_none : (x : Points) → ((a : ℕ) → x a ≡ false) → x ≡ iterate (step m y) 0
-  turn_none x none = fun_ext none
-
   pub turn_more : (k : ℕ) (x z : Points) → x ≡ iterate (step m y) k → ((a : ℕ) → z a ≡ m.derives x y a) → z ≡ iterate (step m y) (k + 1)
   turn_more k x z e derived =
       rw add-one (fun_ext (λ a. derived a ∙ ap (λ (w : Points). m.derives w y a) e))

@@ -16,13 +16,11 @@ pub fn spread(points: Ruling, number: u16) -> Ruling
 {
     let mut subset = Ruling::empty();
     let mut digits = number;
-    for point in 0..128u8 {
-        if points.has(point) {
-            if digits % 2 == 1 {
-                subset.insert(point);
-            }
-            digits /= 2;
+    for point in (0..128u8).filter(|&point| points.has(point)) {
+        if digits % 2 == 1 {
+            subset.insert(point);
         }
+        digits /= 2;
     }
     subset
 }
@@ -31,12 +29,6 @@ pub fn spread(points: Ruling, number: u16) -> Ruling
 pub fn is_stable_over<B: Book>(book: &B, points: Ruling, lower: Ruling, part: Ruling) -> bool
     ensures { (result ≡ true) ↔ Stable (restricted (B.Book.meaning book.now) (has points) (has lower) (has lower)) (has part) }
 {
-    let chapter = Chapter {
-        book,
-        points,
-        granted: lower,
-        open: lower,
-    };
-    let closure = closure(&chapter, part);
-    part.is_part_of(closure) && closure.is_part_of(part)
+    let chapter = Chapter::over(book, points, lower);
+    part == closure(&chapter, part)
 }

@@ -24,10 +24,7 @@ impl Chapters {
     pub fn of(&self, point: u8) -> u8
         ensures { result ≡ chapter_of self.now point }
     {
-        if point >= 128 {
-            return 0;
-        }
-        self.numbers[point as usize]
+        self.numbers.get(usize::from(point)).copied().unwrap_or(0)
     }
 
     // Puts a point into a chapter; the others keep theirs. A point of 128 or above changes nothing.
@@ -36,7 +33,7 @@ impl Chapters {
         ensures past { 128 ≤ point → self.new ≡ self.old }
     {
         if point < 128 {
-            self.numbers[point as usize] = chapter;
+            self.numbers[usize::from(point)] = chapter;
         }
     }
 
@@ -44,13 +41,7 @@ impl Chapters {
     pub fn points_of(&self, chapter: u8) -> Ruling
         ensures { (a : ℕ) → has result a ≡ nat_lt a 128 && chapter_of self.now a == chapter }
     {
-        let mut points = Ruling::empty();
-        for point in 0..128u8 {
-            if self.of(point) == chapter {
-                points.insert(point);
-            }
-        }
-        points
+        Ruling::points_where(128, |point| self.of(point) == chapter)
     }
 
     // The part of a ruling in a chapter.
@@ -64,18 +55,6 @@ impl Chapters {
     pub fn part_below(&self, chapter: u8, ruling: Ruling) -> Ruling
         ensures { has result ≡ below_chapter (chapter_of self.now) chapter (has ruling) }
     {
-        let mut part = Ruling::empty();
-        for point in 0..128u8 {
-            if self.has_below(chapter, ruling, point) {
-                part.insert(point);
-            }
-        }
-        part
-    }
-
-    fn has_below(&self, chapter: u8, ruling: Ruling, point: u8) -> bool
-        ensures { result ≡ below_chapter (chapter_of self.now) chapter (has ruling) point }
-    {
-        self.of(point) < chapter && ruling.has(point)
+        Ruling::points_where(128, |point| self.of(point) < chapter && ruling.has(point))
     }
 }

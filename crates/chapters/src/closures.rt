@@ -26,11 +26,5 @@ pub fn closure<O: Operator>(operator: &O, y: Ruling) -> Ruling
 fn derived<O: Operator>(operator: &O, x: Ruling, y: Ruling) -> Ruling
     ensures { (a : ℕ) → has result a ≡ (O.Operator.meant operator.now).derives (has x) (has y) a }
 {
-    let mut next = Ruling::empty();
-    for point in 0..operator.size() {
-        if operator.derives(point, x, y) {
-            next.insert(point);
-        }
-    }
-    next
+    Ruling::points_where(operator.size(), |point| operator.derives(point, x, y))
 }

@@ -1,4 +1,4 @@
-// Whether the chapters fit: no point reads a point of a higher chapter.
+// Whether the chapters fit a book: no point reads a point of a higher chapter.
 ghost use Rattle.std.specs.Prelude.{◌≡◌};
 ghost use Rattle.rulings.specs.Points.{Lowest};
 ghost use Rattle.chapters.specs.Fitting.{upward, FirstUpward};
@@ -7,32 +7,28 @@ ghost use Rattle.chapters.specs.Table.{chapter_of};
 use crate::chapters::Chapters;
 use books::Book;
 
-// The lowest point that reads a point of a higher chapter, and the lowest that it so reads; none where the chapters fit.
-pub fn first_upward<B: Book>(book: &B, chapters: &Chapters) -> Option<(u8, u8)>
-    ensures { FirstUpward (B.Book.meaning book.now) (chapter_of chapters.now) result }
-{
-    for a in 0..book.size() {
-        if let Some(b) = first_read_above(book, chapters, a) {
-            return Some((a, b));
-        }
+impl Chapters {
+    // The lowest point that reads a point of a higher chapter, and the lowest that it so reads; none where the chapters fit.
+    pub fn first_upward<B: Book>(&self, book: &B) -> Option<(u8, u8)>
+        ensures { FirstUpward (B.Book.meaning book.now) (chapter_of self.now) result }
+    {
+        (0..book.size()).find_map(|reader| {
+            let read = self.first_read_above(book, reader)?;
+            Some((reader, read))
+        })
     }
-    None
-}
 
-// The lowest point of a higher chapter that the point reads.
-fn first_read_above<B: Book>(book: &B, chapters: &Chapters, point: u8) -> Option<u8>
-    ensures { Lowest (upward (B.Book.meaning book.now) (chapter_of chapters.now) point) result }
-{
-    for other in 0..book.size() {
-        if reads_upward(book, chapters, point, other) {
-            return Some(other);
-        }
+    // The lowest point of a higher chapter that the point reads.
+    fn first_read_above<B: Book>(&self, book: &B, reader: u8) -> Option<u8>
+        ensures { Lowest (upward (B.Book.meaning book.now) (chapter_of self.now) reader) result }
+    {
+        (0..book.size()).find(|&read| self.reads_upward(book, reader, read))
     }
-    None
-}
 
-pub fn reads_upward<B: Book>(book: &B, chapters: &Chapters, point: u8, other: u8) -> bool
-    ensures { result ≡ upward (B.Book.meaning book.now) (chapter_of chapters.now) point other }
-{
-    book.reads(point, other) && chapters.of(point) < chapters.of(other)
+    // Whether a point reads another, which lies in a higher chapter.
+    pub fn reads_upward<B: Book>(&self, book: &B, reader: u8, read: u8) -> bool
+        ensures { result ≡ upward (B.Book.meaning book.now) (chapter_of self.now) reader read }
+    {
+        book.reads(reader, read) && self.of(reader) < self.of(read)
+    }
 }

@@ -11,6 +11,5 @@ mod reading;
 pub use candidates::{is_stable_over, spread};
 pub use chapters::Chapters;
 pub use closures::closure;
-pub use fitting::{first_upward, reads_upward};
 pub use operator::{Chapter, Operator, Whole};
 pub use reading::{Reading, least_pair};

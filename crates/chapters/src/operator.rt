@@ -50,6 +50,23 @@ pub struct Chapter<'a, B> {
     pub open: Ruling,
 }
 
+impl<'a, B: Book> Chapter<'a, B> {
+    // A chapter over the lower part of a ruling, in which supporters and strikers alike are looked up.
+    pub fn over(book: &'a B, points: Ruling, lower: Ruling) -> Chapter<'a, B>
+        ensures book { result.book.now ≡ book.now }
+        ensures points { result.points ≡ points }
+        ensures supporters { result.granted ≡ lower }
+        ensures strikers { result.open ≡ lower }
+    {
+        Chapter {
+            book,
+            points,
+            granted: lower,
+            open: lower,
+        }
+    }
+}
+
 impl<'a, B: Book> Operator for Chapter<'a, B> {
     ghost meant = { λ c. restricted (B.Book.meaning c.book.now) (has c.points) (has c.granted) (has c.open) };
 

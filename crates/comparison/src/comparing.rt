@@ -1,10 +1,10 @@
 // Books compared by their listings.
-use crate::say;
 use books::{ProtestBook, RuleBook};
 use marker::Marker;
 use rulings::Ruling;
 use runs::{Answer, Call, compare};
 use std::io;
+use telling::say;
 
 pub(crate) fn compare_books(rt: &HostRuntime) -> io::Result<()> {
     say::title(
@@ -58,10 +58,13 @@ fn say_compared(rt: &HostRuntime, calls: &[Call], others: &[Call]) -> io::Result
     let mut protests = Marker::new(ProtestBook::new());
     let compared = compare(&mut rules, calls, &mut protests, others, rt.alloc())?;
     match (compared.first.last(), compared.second.last()) {
-        (Some(Answer::Listing { rows: listed, .. }), Some(Answer::Listing { rows: other, .. })) => {
+        (
+            Some(Ok(Answer::Listing { rows: listed, .. })),
+            Some(Ok(Answer::Listing { rows: other, .. })),
+        ) => {
             say_rows(rt, "the rule book lists", listed)?;
             say_rows(rt, "the protest book lists", other)?;
-            if same(listed, other) {
+            if listed == other {
                 println!(rt; "  equal: the two books have the same stable rulings")
             } else {
                 println!(rt; "  not equal: one book has a stable ruling that the other has not")
@@ -71,14 +74,7 @@ fn say_compared(rt: &HostRuntime, calls: &[Call], others: &[Call]) -> io::Result
     }
 }
 
-fn same(rows: &[Ruling], others: &[Ruling]) -> bool {
-    rows == others
-}
-
 fn say_rows(rt: &HostRuntime, what: &str, rows: &[Ruling]) -> io::Result<()> {
     print!(rt; "  {what}")?;
-    for row in rows {
-        print!(rt; " {row}")?;
-    }
-    println!(rt; "")
+    say::rulings(rt, rows)
 }

@@ -3,7 +3,6 @@
 
 mod comparing;
 mod listing;
-mod say;
 
 use std::io;
 

@@ -1,14 +1,11 @@
 // Judging by chapter.
-use answers::{Fault, Layer, Refusal, Verdict};
-use books::{Book, ProtestBook, RuleBook};
+use crate::support::{enter, example_marker, opened, row_of_protests};
+use answers::{ChapterVerdict, Fault, Layer, Refusal, Verdict};
+use books::{Book, ProtestBook};
 use marker::Marker;
 use rulings::Ruling;
 use std::process::Abort;
 use std::test::Fail;
-
-fn denied(refusal: Refusal) -> Result<(), Fault> {
-    Err(Fault::new(Layer::Marker, refusal))
-}
 
 fn by_chapter<B: Book>(
     rt: &impl Abort,
@@ -18,24 +15,14 @@ fn by_chapter<B: Book>(
     chapter: Option<u8>,
 ) -> Result<(), Fail> {
     let judged = marker.judge_by_chapter(Ruling::from_points(points))?;
-    assert_eq!(rt; judged.verdict(), verdict);
-    assert_eq!(rt; judged.chapter(), chapter);
+    assert_eq!(rt; judged, ChapterVerdict::new(verdict, chapter));
     Ok(())
-}
-
-fn enter<B: Book>(marker: &mut Marker<B>, point: u8, p: &[u8], q: &[u8]) -> Result<(), Fault> {
-    marker.enter(point, Ruling::from_points(p), Ruling::from_points(q))
 }
 
 // 0 if not 1; 1 if not 0; 2 if 0; 3 if 2 and not 1, with chapters 0, 0, 1, 2
 #[test]
 fn example_by_chapter(rt: HostRuntime) -> Result<(), Fail> {
-    let mut marker = Marker::new(RuleBook::new());
-    marker.open(4)?;
-    enter(&mut marker, 0, &[], &[1])?;
-    enter(&mut marker, 1, &[], &[0])?;
-    enter(&mut marker, 2, &[0], &[])?;
-    enter(&mut marker, 3, &[2], &[1])?;
+    let mut marker = example_marker()?;
     marker.place(2, 1)?;
     marker.place(3, 2)?;
     by_chapter(&rt, &marker, &[1], Verdict::Stable, None)?;
@@ -47,8 +34,7 @@ fn example_by_chapter(rt: HostRuntime) -> Result<(), Fail> {
 // 0 if 1: the lowest point of the book and the lowest chapter may disagree on which point is named
 #[test]
 fn chapters_decide_which_point_is_named(rt: HostRuntime) -> Result<(), Fail> {
-    let mut marker = Marker::new(RuleBook::new());
-    marker.open(2)?;
+    let mut marker = opened(2)?;
     enter(&mut marker, 0, &[1], &[])?;
     marker.place(0, 1)?;
     let both = Ruling::from_points(&[0, 1]);
@@ -56,40 +42,32 @@ fn chapters_decide_which_point_is_named(rt: HostRuntime) -> Result<(), Fail> {
     by_chapter(&rt, &marker, &[0, 1], Verdict::Unfounded(1), Some(0))?;
     marker.place(0, 0)?;
     marker.place(1, 1)?;
-    match marker.judge_by_chapter(both) {
-        Ok(_) => Err(Fail::new("the chapters do not fit")),
-        Err(fault) => {
-            assert_eq!(rt;
-                fault,
-                Fault::new(Layer::Marker, Refusal::ReadsUpward(0, 1))
-            );
-            Ok(())
-        },
-    }
+    assert_eq!(rt;
+        marker.judge_by_chapter(both),
+        Err(Fault::new(Layer::Marker, Refusal::ReadsUpward(0, 1)))
+    );
+    Ok(())
 }
 
 #[test]
 fn placing_at_its_limits(rt: HostRuntime) -> Result<(), Fail> {
-    let mut marker = Marker::new(RuleBook::new());
-    marker.open(3)?;
+    let mut marker = opened(3)?;
     assert_eq!(rt; marker.place(2, 15), Ok(()));
-    assert_eq!(rt; marker.place(2, 16), denied(Refusal::NoSuchChapter(2)));
+    assert_eq!(rt;
+        marker.place(2, 16),
+        Err(Fault::new(Layer::Marker, Refusal::NoSuchChapter(2)))
+    );
     assert_eq!(rt;
         marker.place(3, 16),
-        denied(Refusal::NoSuchPoint(3)),
+        Err(Fault::new(Layer::Marker, Refusal::NoSuchPoint(3))),
         "the smaller number goes first"
     );
     Ok(())
 }
 
-// 0, 1, 2 lodged; 0 protests 1, 1 protests 2
 #[test]
 fn protests_in_a_row(rt: HostRuntime) -> Result<(), Fail> {
-    let mut marker = Marker::new(ProtestBook::new());
-    marker.open(3)?;
-    enter(&mut marker, 0, &[], &[])?;
-    enter(&mut marker, 1, &[], &[0])?;
-    enter(&mut marker, 2, &[], &[1])?;
+    let marker = row_of_protests()?;
     by_chapter(&rt, &marker, &[0, 2], Verdict::Stable, None)?;
     by_chapter(&rt, &marker, &[0], Verdict::Missing(2), Some(0))
 }

@@ -17,3 +17,5 @@ mod records;
 mod replays;
 #[cfg(test)]
 mod rulings_as_sets;
+#[cfg(test)]
+mod support;

@@ -84,7 +84,7 @@ fn entries_256_and_257(rt: HostRuntime) -> Result<(), Fail> {
 fn faults_by_number_and_places(rt: HostRuntime) {
     let fault = Fault::new(Layer::Marker, Refusal::ReadsUpward(3, 7));
     assert_eq!(rt; fault.number(), 8);
-    assert_eq!(rt; fault.layer(), 2);
+    assert_eq!(rt; fault.layer().number(), 2);
     assert_eq!(rt; fault.places(), (Some(3), Some(7)));
     assert_eq!(rt;
         Fault::new(Layer::Book, Refusal::BadSize).places(),

@@ -1,4 +1,5 @@
 // Listings: worked examples, the limits of width and rows, and the ceiling of effort.
+use crate::support::{each_pair, enter, example_marker, opened};
 use answers::{Fault, Layer, Listing, Refusal};
 use books::{Book, ProtestBook, RuleBook};
 use marker::Marker;
@@ -13,49 +14,33 @@ fn denied(refusal: Refusal) -> Result<Listing, Fault> {
     Err(Fault::new(Layer::Marker, refusal))
 }
 
-fn opened(size: u8) -> Result<Marker<RuleBook>, Fault> {
-    let mut marker = Marker::new(RuleBook::new());
-    marker.open(size)?;
-    Ok(marker)
-}
-
-fn enter<B: Book>(marker: &mut Marker<B>, point: u8, p: &[u8], q: &[u8]) -> Result<(), Fault> {
-    marker.enter(point, Ruling::from_points(p), Ruling::from_points(q))
-}
-
 // As many pairs "a if not b, b if not a", from a point on, each pair in a chapter of its own from a chapter on.
 fn add_pairs(marker: &mut Marker<RuleBook>, pairs: u8, from: u8, chapter: u8) -> Result<(), Fault> {
-    for pair in 0..pairs {
-        let a = from.wrapping_add(pair.wrapping_mul(2));
-        let b = a.wrapping_add(1);
-        let chapter = chapter.wrapping_add(pair);
+    each_pair(pairs, from, chapter, |a, b, chapter| {
         enter(marker, a, &[], &[b])?;
         enter(marker, b, &[], &[a])?;
         marker.place(a, chapter)?;
-        marker.place(b, chapter)?;
-    }
-    Ok(())
+        marker.place(b, chapter)
+    })
 }
 
 // 0 if not 1; 1 if not 0; 2 if 0; 3 if 2 and not 1
 #[test]
 fn example_in_three_chapters_and_in_one(rt: HostRuntime) -> Result<(), Fail> {
-    let mut marker = opened(4)?;
-    enter(&mut marker, 0, &[], &[1])?;
-    enter(&mut marker, 1, &[], &[0])?;
-    enter(&mut marker, 2, &[0], &[])?;
-    enter(&mut marker, 3, &[2], &[1])?;
+    let mut marker = example_marker()?;
     let found = Ruling::from_points(&[99]);
+    let listed = [
+        Ruling::from_points(&[1]),
+        Ruling::from_points(&[0, 2, 3]),
+        found,
+    ];
     let mut rows = [found; 3];
     assert_eq!(rt; marker.list(&mut rows), counts(2, 16));
-    assert_eq!(rt; rows[0], Ruling::from_points(&[1]));
-    assert_eq!(rt; rows[1], Ruling::from_points(&[0, 2, 3]));
+    assert_eq!(rt; rows, listed);
     marker.place(2, 1)?;
     marker.place(3, 2)?;
     assert_eq!(rt; marker.list(&mut rows), counts(2, 12));
-    assert_eq!(rt; rows[0], Ruling::from_points(&[1]));
-    assert_eq!(rt; rows[1], Ruling::from_points(&[0, 2, 3]));
-    assert_eq!(rt; rows[2], found, "later rows stay as found");
+    assert_eq!(rt; rows, listed, "later rows stay as found");
     Ok(())
 }
 
@@ -67,8 +52,7 @@ fn chapters_that_do_not_fit_leave_the_rows(rt: HostRuntime) -> Result<(), Fail> 
     let found = Ruling::from_points(&[99]);
     let mut rows = [found; 2];
     assert_eq!(rt; marker.list(&mut rows), denied(Refusal::ReadsUpward(0, 1)));
-    assert_eq!(rt; rows[0], found);
-    assert_eq!(rt; rows[1], found);
+    assert_eq!(rt; rows, [found; 2]);
     Ok(())
 }
 

@@ -1,10 +1,12 @@
 // Records and replies: every refusal by its nine bytes, the limits of input and buffer, and records cut short.
+use crate::support::each_pair;
 use answers::{Fault, Layer, Refusal};
 use books::{Book, ProtestBook, RuleBook};
 use marker::Marker;
-use reader::{Reader, Turn, serve};
+use reader::{Reader, serve};
 use rulings::Ruling;
 use std::alloc::{AllocError, Global};
+use std::process::Abort;
 use std::test::Fail;
 
 // The replies to some records for a new rule book.
@@ -25,21 +27,33 @@ fn add_entry(input: &mut Vec<u8>, point: u8, p: Ruling, q: Ruling) -> Result<(),
 
 // As many pairs "a if not b, b if not a", from a point on, each in a chapter of its own from a chapter on.
 fn add_pairs(input: &mut Vec<u8>, pairs: u8, from: u8, chapter: u8) -> Result<(), AllocError> {
-    for pair in 0..pairs {
-        let a = from.wrapping_add(pair.wrapping_mul(2));
-        let b = a.wrapping_add(1);
-        let chapter = chapter.wrapping_add(pair);
+    each_pair(pairs, from, chapter, |a, b, chapter| {
         add_entry(input, a, Ruling::empty(), Ruling::from_points(&[b]))?;
         add_entry(input, b, Ruling::empty(), Ruling::from_points(&[a]))?;
-        input.extend_from_slice(&[4, a, chapter, 4, b, chapter])?;
-    }
+        input.extend_from_slice(&[4, a, chapter, 4, b, chapter])
+    })
+}
+
+// What records for a new rule book are to be replied.
+fn assert_replies(
+    rt: &(impl Abort + AllocGlobal),
+    input: &[u8],
+    expected: &[u8],
+) -> Result<(), Fail> {
+    let replies = replies(input, rt.alloc())?;
+    assert_eq!(rt; replies.as_slice(), expected);
     Ok(())
 }
 
-// What the last nine bytes of the replies are.
-fn ends_in(replies: &[u8], denial: &[u8]) -> bool {
-    let behind = replies.len().saturating_sub(9);
-    &replies[behind..] == denial
+// What the last reply to records for a new rule book is to be.
+fn assert_last_reply(
+    rt: &(impl Abort + AllocGlobal),
+    input: &[u8],
+    expected: [u8; 9],
+) -> Result<(), Fail> {
+    let replies = replies(input, rt.alloc())?;
+    assert_eq!(rt; replies.last_chunk(), Some(&expected));
+    Ok(())
 }
 
 #[test]
@@ -50,23 +64,21 @@ fn no_records_no_replies(rt: HostRuntime) -> Result<(), Fail> {
 
 #[test]
 fn denials_of_the_rule_book(rt: HostRuntime) -> Result<(), Fail> {
-    assert!(rt; replies(&[1, 0], rt.alloc())?.as_slice() == denial(1, 1, 255, 255, 0).as_slice());
-    assert!(rt; replies(&[3, 9], rt.alloc())?.as_slice() == denial(2, 1, 9, 255, 0).as_slice());
-    assert!(rt; replies(&[3, 255], rt.alloc())?.as_slice() == denial(2, 1, 255, 255, 0).as_slice());
-    assert!(rt; replies(&[3, 0], rt.alloc())?.as_slice() == denial(6, 1, 0, 255, 0).as_slice());
-    Ok(())
+    assert_replies(&rt, &[1, 0], &denial(1, 1, 255, 255, 0))?;
+    assert_replies(&rt, &[3, 9], &denial(2, 1, 9, 255, 0))?;
+    assert_replies(&rt, &[3, 255], &denial(2, 1, 255, 255, 0))?;
+    assert_replies(&rt, &[3, 0], &denial(6, 1, 0, 255, 0))
 }
 
 #[test]
 fn denials_of_the_marker(rt: HostRuntime) -> Result<(), Fail> {
-    assert!(rt; replies(&[4, 1, 0], rt.alloc())?.as_slice() == denial(2, 2, 1, 255, 0).as_slice());
-    assert!(rt; replies(&[4, 0, 16], rt.alloc())?.as_slice() == denial(7, 2, 0, 255, 0).as_slice());
+    assert_replies(&rt, &[4, 1, 0], &denial(2, 2, 1, 255, 0))?;
+    assert_replies(&rt, &[4, 0, 16], &denial(7, 2, 0, 255, 0))?;
     let mut input = Vec::new(rt.alloc());
     input.push(5)?;
     input.extend_from_slice(&Ruling::from_points(&[0, 7]).bytes())?;
-    assert!(rt; replies(&input, rt.alloc())?.as_slice() == denial(3, 2, 7, 255, 0).as_slice());
-    assert!(rt; ends_in(&replies(&[1, 13, 8], rt.alloc())?, &denial(9, 2, 0, 255, 2)));
-    Ok(())
+    assert_replies(&rt, &input, &denial(3, 2, 7, 255, 0))?;
+    assert_last_reply(&rt, &[1, 13, 8], denial(9, 2, 0, 255, 2))
 }
 
 #[test]
@@ -75,8 +87,7 @@ fn chapters_that_do_not_fit(rt: HostRuntime) -> Result<(), Fail> {
     input.extend_from_slice(&[1, 2])?;
     add_entry(&mut input, 0, Ruling::from_points(&[1]), Ruling::empty())?;
     input.extend_from_slice(&[4, 1, 1, 7])?;
-    assert!(rt; ends_in(&replies(&input, rt.alloc())?, &denial(8, 2, 0, 1, 39)));
-    Ok(())
+    assert_last_reply(&rt, &input, denial(8, 2, 0, 1, 39))
 }
 
 #[test]
@@ -86,7 +97,7 @@ fn supporters_in_a_protest_book(rt: HostRuntime) -> Result<(), Fail> {
     add_entry(&mut input, 0, zero, Ruling::empty())?;
     let mut marker = Marker::new(ProtestBook::new());
     let replied = serve(&mut marker, &input, rt.alloc())?;
-    assert!(rt; replied.as_slice() == denial(4, 1, 0, 255, 0).as_slice());
+    assert_eq!(rt; replied.as_slice(), denial(4, 1, 0, 255, 0).as_slice());
     Ok(())
 }
 
@@ -99,7 +110,10 @@ fn entry_257_finds_the_book_full(rt: HostRuntime) -> Result<(), Fail> {
     let replied = replies(&input, rt.alloc())?;
     assert_eq!(rt; replied.len(), 265);
     // the last record stands at 256 times 34, which is 8,704
-    assert!(rt; ends_in(&replied, &[0xFF, 5, 1, 255, 255, 0, 34, 0, 0]));
+    assert_eq!(rt;
+        replied.last_chunk(),
+        Some(&[0xFF, 5, 1, 255, 255, 0, 34, 0, 0])
+    );
     Ok(())
 }
 
@@ -110,23 +124,12 @@ fn too_much_to_try_and_too_few_rows(rt: HostRuntime) -> Result<(), Fail> {
     add_pairs(&mut input, 7, 0, 0)?;
     input.push(8)?;
     // seven pairs take 74 bytes each, behind two bytes for the opening
-    assert!(rt;
-        ends_in(
-            &replies(&input, rt.alloc())?,
-            &[0xFF, 11, 2, 255, 255, 8, 2, 0, 0],
-        )
-    );
+    assert_last_reply(&rt, &input, [0xFF, 11, 2, 255, 255, 8, 2, 0, 0])?;
     let mut input = Vec::new(rt.alloc());
     input.extend_from_slice(&[1, 31, 4, 1, 1])?;
     add_pairs(&mut input, 14, 2, 2)?;
     input.push(8)?;
-    assert!(rt;
-        ends_in(
-            &replies(&input, rt.alloc())?,
-            &[0xFF, 10, 2, 255, 255, 17, 4, 0, 0],
-        )
-    );
-    Ok(())
+    assert_last_reply(&rt, &input, [0xFF, 10, 2, 255, 255, 17, 4, 0, 0])
 }
 
 #[test]
@@ -139,8 +142,7 @@ fn input_of_32768_bytes_and_one_more(rt: HostRuntime) -> Result<(), Fail> {
         "every second byte opens a book of one point"
     );
     input.push(1)?;
-    assert!(rt; replies(&input, rt.alloc())?.as_slice() == denial(12, 3, 255, 255, 0).as_slice());
-    Ok(())
+    assert_replies(&rt, &input, &denial(12, 3, 255, 255, 0))
 }
 
 #[test]
@@ -155,31 +157,24 @@ fn buffers_of_1094_and_1095_bytes(rt: HostRuntime) -> Result<(), Fail> {
     assert_eq!(rt; short[0], 7, "nothing is written");
     let mut reply = [7u8; 1_095];
     match reader.turn(&mut marker, &mut reply)? {
-        Turn::Replied { length } => assert_eq!(rt; length, 24),
-        Turn::Finished => return Err(Fail::new("the record was lost")),
+        Some(length) => assert_eq!(rt; length, 24),
+        None => return Err(Fail::new("the record was lost")),
     }
     assert_eq!(rt; reply[0], 0x84);
     assert_eq!(rt; reply[24], 7, "behind the reply the buffer is as found");
     match reader.turn(&mut marker, &mut reply)? {
-        Turn::Finished => {
+        None => {
             assert_eq!(rt; reply[0], 0x84);
             Ok(())
         },
-        Turn::Replied { .. } => Err(Fail::new("there was one record")),
+        Some(_) => Err(Fail::new("there was one record")),
     }
 }
 
 #[test]
 fn unknown_kinds_end_the_reading(rt: HostRuntime) -> Result<(), Fail> {
-    assert!(rt;
-        replies(&[0, 1, 1], rt.alloc())?.as_slice() == denial(14, 3, 255, 255, 0).as_slice()
-    );
-    assert!(rt;
-        ends_in(
-            &replies(&[1, 3, 10, 7], rt.alloc())?,
-            &denial(14, 3, 255, 255, 2),
-        )
-    );
+    assert_replies(&rt, &[0, 1, 1], &denial(14, 3, 255, 255, 0))?;
+    assert_last_reply(&rt, &[1, 3, 10, 7], denial(14, 3, 255, 255, 2))?;
     assert_eq!(rt; replies(&[1, 3, 10, 7], rt.alloc())?.len(), 10);
     Ok(())
 }
@@ -188,22 +183,15 @@ fn unknown_kinds_end_the_reading(rt: HostRuntime) -> Result<(), Fail> {
 #[test]
 fn records_cut_at_every_byte(rt: HostRuntime) -> Result<(), Fail> {
     let cut = denial(15, 3, 255, 255, 0);
-    for kind in 1..7u8 {
-        let full: usize = match kind {
-            1 => 2,
-            2 => 34,
-            3 => 2,
-            4 => 3,
-            _ => 17,
-        };
+    for (kind, full) in [(1, 2), (2, 34), (3, 2), (4, 3), (5, 17), (6, 17)] {
         let mut record = Vec::new(rt.alloc());
         record.push(kind)?;
         for _ in 1..full {
-            assert!(rt; replies(&record, rt.alloc())?.as_slice() == cut.as_slice());
+            assert_replies(&rt, &record, &cut)?;
             record.push(0)?;
         }
         let replied = replies(&record, rt.alloc())?;
-        assert!(rt; replied.as_slice() != cut.as_slice(), "whole, it is taken");
+        assert_ne!(rt; replied.as_slice(), cut.as_slice(), "whole, it is taken");
     }
     assert_eq!(rt; replies(&[7], rt.alloc())?.len(), 33);
     assert_eq!(rt; replies(&[8], rt.alloc())?.len(), 24);

@@ -27,9 +27,9 @@ fn mutual() -> [Call; 4] {
     ]
 }
 
-fn listed(answers: &[Answer], at: usize) -> Result<&[Ruling], Fail> {
+fn listed(answers: &[Result<Answer, Fault>], at: usize) -> Result<&[Ruling], Fail> {
     match answers.get(at) {
-        Some(Answer::Listing { rows, .. }) => Ok(rows),
+        Some(Ok(Answer::Listing { rows, .. })) => Ok(rows),
         _ => Err(Fail::new("no listing there")),
     }
 }
@@ -52,11 +52,11 @@ fn every_call_is_answered_in_its_place(rt: HostRuntime) -> Result<(), Fail> {
     let answers = replay(&mut marker, &calls, rt.alloc())?;
     assert_eq!(rt; answers.len(), 4);
     match &answers[0] {
-        Answer::Denied(fault) => assert_eq!(rt; *fault, Fault::new(Layer::Book, Refusal::BadSize)),
+        Err(fault) => assert_eq!(rt; *fault, Fault::new(Layer::Book, Refusal::BadSize)),
         _ => return Err(Fail::new("the opening was not denied")),
     }
     match &answers[2] {
-        Answer::Verdict(verdict) => assert_eq!(rt; *verdict, Verdict::Missing(0)),
+        Ok(Answer::Verdict(verdict)) => assert_eq!(rt; *verdict, Verdict::Missing(0)),
         _ => return Err(Fail::new("no verdict")),
     }
     let rows = listed(&answers, 3)?;

@@ -1,24 +1,59 @@
 // Calls and answers in words.
-use answers::{Fault, Layer, Refusal, UpwardReading};
+use answers::{Fault, Layer, UpwardReading};
+use books::{ProtestBook, RuleBook};
+use reader::Unreadable;
 use rulings::Ruling;
 use runs::{Answer, Call};
 use std::io;
 
-// The sort of book, which decides how an entering is said.
-#[derive(Clone, Copy)]
-pub(crate) enum Sort {
-    Rules,
-    Protests,
+// A sort of book, by how an entering is said.
+pub(crate) trait SayEntry {
+    fn say_entry(rt: &HostRuntime, point: u8, p: Ruling, q: Ruling) -> io::Result<()>;
+}
+
+impl SayEntry for RuleBook {
+    // As in `enter 3 if 2 and not 1`.
+    fn say_entry(rt: &HostRuntime, point: u8, p: Ruling, q: Ruling) -> io::Result<()> {
+        print!(rt; "enter {point}")?;
+        let joint = conditions(rt, " if", p, "")?;
+        conditions(rt, joint, q, " not")?;
+        print!(rt; ": ")
+    }
+}
+
+// Says conditions, one for each point, the first behind a joint; answers the joint of the next.
+fn conditions(
+    rt: &HostRuntime,
+    joint: &'static str,
+    points: Ruling,
+    not: &str,
+) -> io::Result<&'static str> {
+    let mut joint = joint;
+    for point in 0..128u8 {
+        if points.has(point) {
+            print!(rt; "{joint}{not} {point}")?;
+            joint = " and";
+        }
+    }
+    Ok(joint)
+}
+
+impl SayEntry for ProtestBook {
+    // As in `lodge 2, protested by {1}`.
+    fn say_entry(rt: &HostRuntime, point: u8, p: Ruling, q: Ruling) -> io::Result<()> {
+        print!(rt; "lodge {point}, protested by {q}")?;
+        if p.first_from(0).is_some() {
+            print!(rt; ", supported by {p}")?;
+        }
+        print!(rt; ": ")
+    }
 }
 
 // What was asked, with a colon behind it.
-pub(crate) fn call(rt: &HostRuntime, sort: Sort, call: Call) -> io::Result<()> {
+pub(crate) fn call<B: SayEntry>(rt: &HostRuntime, call: Call) -> io::Result<()> {
     match call {
         Call::Open { size } => print!(rt; "open {size}: "),
-        Call::Enter { point, p, q } => match sort {
-            Sort::Rules => entry(rt, point, p, q),
-            Sort::Protests => lodging(rt, point, p, q),
-        },
+        Call::Enter { point, p, q } => B::say_entry(rt, point, p, q),
         Call::Withdraw { point } => print!(rt; "withdraw {point}: "),
         Call::Place { point, chapter } => print!(rt; "place {point} in chapter {chapter}: "),
         Call::Judge { ruling } => print!(rt; "judge {ruling}: "),
@@ -29,58 +64,29 @@ pub(crate) fn call(rt: &HostRuntime, sort: Sort, call: Call) -> io::Result<()> {
     }
 }
 
-// As in `enter 3 if 2 and not 1`.
-fn entry(rt: &HostRuntime, point: u8, p: Ruling, q: Ruling) -> io::Result<()> {
-    print!(rt; "enter {point}")?;
-    let mut joint = " if";
-    for supporter in 0..128u8 {
-        if p.has(supporter) {
-            print!(rt; "{joint} {supporter}")?;
-            joint = " and";
-        }
-    }
-    for striker in 0..128u8 {
-        if q.has(striker) {
-            print!(rt; "{joint} not {striker}")?;
-            joint = " and";
-        }
-    }
-    print!(rt; ": ")
-}
-
-// As in `lodge 2, protested by {1}`.
-fn lodging(rt: &HostRuntime, point: u8, p: Ruling, q: Ruling) -> io::Result<()> {
-    print!(rt; "lodge {point}, protested by {q}")?;
-    if let Some(_) = p.first_from(0) {
-        print!(rt; ", supported by {p}")?;
-    }
-    print!(rt; ": ")
-}
-
 // What was answered, to the end of the line.
-pub(crate) fn answer(rt: &HostRuntime, answer: &Answer) -> io::Result<()> {
+pub(crate) fn answer(rt: &HostRuntime, answer: &Result<Answer, Fault>) -> io::Result<()> {
     match answer {
-        Answer::Done => println!(rt; "done"),
-        Answer::Verdict(verdict) => println!(rt; "{verdict}"),
-        Answer::ChapterVerdict(judged) => {
+        Ok(Answer::Done) => println!(rt; "done"),
+        Ok(Answer::Verdict(verdict)) => println!(rt; "{verdict}"),
+        Ok(Answer::ChapterVerdict(judged)) => {
             let verdict = judged.verdict();
             match judged.chapter() {
                 None => println!(rt; "{verdict}"),
                 Some(chapter) => println!(rt; "{verdict}, in chapter {chapter}"),
             }
         }
-        Answer::Reading { sure, possible } => println!(rt; "sure {sure}, possible {possible}"),
-        Answer::Listing { rows, effort } => listing(rt, rows, *effort),
-        Answer::Audit(rows) => audit(rt, rows),
-        Answer::Denied(fault) => println!(rt; "{fault}"),
+        Ok(Answer::Reading { sure, possible }) => println!(rt; "sure {sure}, possible {possible}"),
+        Ok(Answer::Listing { rows, effort }) => listing(rt, rows, *effort),
+        Ok(Answer::Audit(rows)) => audit(rt, rows),
+        Err(fault) => println!(rt; "{fault}"),
     }
 }
 
 // As in `2 rulings, effort 12: {1} {0, 2, 3}`.
 fn listing(rt: &HostRuntime, rows: &[Ruling], effort: u32) -> io::Result<()> {
-    let count = rows.len();
-    let noun = if count == 1 { "ruling" } else { "rulings" };
-    print!(rt; "{count} {noun}, effort {effort}:")?;
+    count(rt, rows.len(), "ruling")?;
+    print!(rt; ", effort {effort}:")?;
     for row in rows {
         print!(rt; " {row}")?;
     }
@@ -89,26 +95,23 @@ fn listing(rt: &HostRuntime, rows: &[Ruling], effort: u32) -> io::Result<()> {
 
 // As in `1 upward reading: point 0 reads point 1, 1 up`.
 fn audit(rt: &HostRuntime, rows: &[UpwardReading]) -> io::Result<()> {
-    let count = rows.len();
-    let noun = if count == 1 {
-        "upward reading"
-    } else {
-        "upward readings"
-    };
-    print!(rt; "{count} {noun}")?;
+    count(rt, rows.len(), "upward reading")?;
     let mut joint = ":";
-    for row in rows {
-        let reader = row.reader;
-        let read = row.read;
-        let drop = row.drop;
+    for UpwardReading { drop, reader, read } in rows {
         print!(rt; "{joint} point {reader} reads point {read}, {drop} up")?;
         joint = ";";
     }
     println!(rt; "")
 }
 
+// So many of something, with an `s` where it is not one.
+fn count(rt: &HostRuntime, number: usize, noun: &str) -> io::Result<()> {
+    let ending = if number == 1 { "" } else { "s" };
+    print!(rt; "{number} {noun}{ending}")
+}
+
 // A record that the reader does not take, and where it stands.
-pub(crate) fn stopped(rt: &HostRuntime, offset: usize, refusal: Refusal) -> io::Result<()> {
-    let fault = Fault::new(Layer::Reader, refusal);
+pub(crate) fn stopped(rt: &HostRuntime, offset: usize, why: Unreadable) -> io::Result<()> {
+    let fault = Fault::new(Layer::Reader, why.into());
     println!(rt; "record at byte {offset}: {fault}")
 }

@@ -1,5 +1,5 @@
 -- The rulings that a walk has found, in row order, in the rows lent.
-use Rattle.std.proofs.Common.{◌≡◌, ℕ, ◌+◌, ◌<◌, ◌≤◌, Bool, true, false, ◌⊎◌, List, [], ◌∷◌, ◌++◌, length, take, drop, sym, refl, ap, ◌∙◌, subst, inl, inr, arith}
+use Rattle.std.proofs.Common.{◌≡◌, ℕ, ◌+◌, ◌<◌, ◌≤◌, true, ◌⊎◌, Some, None, Option, List, [], ◌∷◌, ◌++◌, length, take, drop, sym, refl, ap, ◌∙◌, subst, inl, inr, arith}
 use Rattle.std.specs.List.{ContainsAt}
 use Rattle.std.proofs.ByRecursion.{all-has, has_append_left, has_append_right}
 use Rattle.rulings.specs.Points.{Points}
@@ -77,15 +77,15 @@ pub record Kept (xs : List Points) (count : ℕ) (found rows : List Ruling) : Ty
 pub kept_none : (found : List Ruling) → Kept [] 0 found found
 kept_none found = record { as_long = refl; later = refl; first = λ h. in_rows_none }
 
-pub kept_more : (xs : List Points) (count : ℕ) (found rows rows' : List Ruling) (x : Points) (row : Ruling) (r : Bool) → has row ≡ x → (ContainsAt xs x → ⊥) →
+pub kept_more : (xs : List Points) (count : ℕ) (found rows rows' : List Ruling) (x : Points) (row : Ruling) (r : Option ℕ) → has row ≡ x → (ContainsAt xs x → ⊥) →
     length rows' ≡ length rows → Inserted Precedes rows count row r rows' → Kept xs count found rows → Kept (xs ++ x ∷ []) (count + 1) found rows'
-kept_more xs count found rows rows' x row true is absent same inserted k =
+kept_more xs count found rows rows' x row (Some m) is absent same inserted k =
     record {
       as_long = same ∙ k.as_long;
-      later = inserted_later Precedes row rows count rows' inserted ∙ same_later count (count + 1) rows found (omega arith) k.later;
+      later = inserted_later Precedes row rows count rows' m inserted ∙ same_later count (count + 1) rows found (omega arith) k.later;
       first = λ h.
           in_rows_more xs (xs ++ x ∷ []) x row (take count rows) (take (count + 1) rows') is push (λ y l. has_append_left xs (x ∷ []) y l)
-          (has_append_right xs (x ∷ []) x (has_first [] x)) absent (inserted_first Precedes row rows count rows' inserted) (k.first (let n = inserted.0 in omega arith));
+          (has_append_right xs (x ∷ []) x (has_first [] x)) absent (inserted_first Precedes row rows count rows' m inserted) (k.first (let n = inserted.0 in omega arith));
     }
   where
     push : (y : Points) → ContainsAt (xs ++ x ∷ []) y → ContainsAt xs y ⊎ (x ≡ y)
@@ -94,7 +94,7 @@ kept_more xs count found rows rows' x row true is absent same inserted k =
           | inl l ↦ inl l
           | inr l ↦ inr (has_one x y l)
         ]
-kept_more xs count found rows rows' x row false is absent same (full, as_found) k =
+kept_more xs count found rows rows' x row None is absent same (full, as_found) k =
     record {
       as_long = same ∙ k.as_long;
       later = ap (drop (count + 1)) as_found ∙ same_later count (count + 1) rows found (omega arith) k.later;

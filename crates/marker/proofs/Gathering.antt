@@ -1,9 +1,9 @@
 -- Gathering the upward readings pair by pair, and what is left to gather where the rows do not suffice.
-use Rattle.std.proofs.Common.{◌≡◌, ℕ, zero, suc, ◌+◌, ◌-◌, ◌<◌, ◌≤◌, true, false, ◌⊎◌, List, [], length, take, sym, refl, ap, ◌∙◌, subst, inl, inr, arith}
+use Rattle.std.proofs.Common.{◌≡◌, ℕ, zero, suc, ◌+◌, ◌-◌, ◌<◌, ◌≤◌, true, false, ◌⊎◌, Some, List, [], length, take, drop, sym, refl, ap, ◌∙◌, subst, inl, inr, arith}
 use Rattle.std.specs.List.{ContainsAt}
 use Rattle.std.proofs.lemmas.List.{length-take-le}
 use Rattle.std.proofs.lemmas.Bool.{cases_lt, cases_Bool}
-use Rattle.rows.specs.Rows.{PutIn, Inserted}
+use Rattle.rows.specs.Rows.{StrictlyInOrder, PutIn, Inserted}
 use Rattle.rows.proofs.Putting.{put_length, put_has_row, put_keeps, put_adds_only, put_strictly, put_among, inserted_first, inserted_later, same_later}
 use Rattle.semantics.specs.Meaning.{Meaning, Lawful}
 use Rattle.semantics.proofs.Tests.{false_is_not_true, and_both}
@@ -11,8 +11,23 @@ use Rattle.answers.specs.declared.audit.UpwardReading.{UpwardReading}
 use Rattle.answers.specs.AuditRows.{AuditedBefore}
 use Rattle.marker.specs.Audit.{AllUpward, reading_row, MoreUpward}
 use Rattle.chapters.specs.Fitting.{upward}
-use Rattle.marker.specs.Gathering.{PairBefore, Gathered, GatheredIn, GatheredOnto}
 use Rattle.answers.specs.AuditOrder.{audit_order}
+
+-- the pair (a, b) is gone through before the pair (i, j)
+abbrev pub PairBefore : ℕ → ℕ → ℕ → ℕ → Type 0
+PairBefore i j a b = (a < i) ⊎ ((a ≡ i) × (b < j))
+
+-- the rows are all the upward readings of the pairs before (i, j), each once, in their order
+pub record Gathered (m : Meaning) (ch : ℕ → ℕ) (i j : ℕ) (rows : List UpwardReading) : Type 0 where
+  pub upward_only : (r : UpwardReading) → ContainsAt rows r → (a : ℕ) × (b : ℕ) × PairBefore i j a b × (upward m ch a b ≡ true) × (r ≡ reading_row ch a b)
+  pub each_there : (a b : ℕ) → PairBefore i j a b → upward m ch a b ≡ true → ContainsAt rows (reading_row ch a b)
+  pub in_order : StrictlyInOrder AuditedBefore rows
+
+-- an audit under way: the first n rows are such, and the later ones are as found
+pub record Gathering (m : Meaning) (ch : ℕ → ℕ) (i j : ℕ) (found rows : List UpwardReading) (n : ℕ) : Type 0 where
+  pub within : n ≤ length rows
+  pub first : Gathered m ch i j (take n rows)
+  pub later : drop n rows ≡ drop n found
 
 -- a pair before (i, j + 1) is before (i, j), or it is (i, j)
 last_pair : (i j a b : ℕ) → PairBefore i (j + 1) a b → PairBefore i j a b ⊎ ((i ≡ a) × (j ≡ b))
@@ -32,7 +47,7 @@ not_before_itself i j a b e f (inl h) = omega arith
 not_before_itself i j a b e f (inr (g, h)) = omega arith
 
 module _ (m : Meaning) (ch : ℕ → ℕ) where
-  pub gathered_none : Gathered m ch 0 0 []
+  gathered_none : Gathered m ch 0 0 []
   gathered_none =
       record {
         upward_only = λ r (k, h, is). absurd (omega arith);
@@ -52,7 +67,7 @@ module _ (m : Meaning) (ch : ℕ → ℕ) where
         not_before_itself i j a b (ap (λ (r : UpwardReading). r.reader) e) (ap (λ (r : UpwardReading). r.read) e) p
 
     -- the next pair reads upward, and its row is put in
-    pub gathered_more_in : (ys : List UpwardReading) → upward m ch i j ≡ true → PutIn AuditedBefore (reading_row ch i j) xs ys → Gathered m ch i (j + 1) ys
+    gathered_more_in : (ys : List UpwardReading) → upward m ch i j ≡ true → PutIn AuditedBefore (reading_row ch i j) xs ys → Gathered m ch i (j + 1) ys
     gathered_more_in ys up put =
         record {
           upward_only = λ r h. elim (put_adds_only AuditedBefore (reading_row ch i j) xs ys put r h) [
@@ -67,7 +82,7 @@ module _ (m : Meaning) (ch : ℕ → ℕ) where
         }
 
     -- the next pair does not read upward
-    pub gathered_more_out : upward m ch i j ≡ false → Gathered m ch i (j + 1) xs
+    gathered_more_out : upward m ch i j ≡ false → Gathered m ch i (j + 1) xs
     gathered_more_out out =
         record {
           upward_only = λ r h. let (a, b, p, u, e) = g.upward_only r h in (a, b, one_more i j a b p, u, e);
@@ -78,36 +93,31 @@ module _ (m : Meaning) (ch : ℕ → ℕ) where
           in_order = g.in_order;
         }
 
-  pub gathered_onto_none : (rows : List UpwardReading) → GatheredOnto m ch 0 0 rows 0 rows 0
-  gathered_onto_none rows = (omega arith, record { within = omega arith; first = gathered_none }, refl)
+  pub gathering_none : (rows : List UpwardReading) → Gathering m ch 0 0 rows rows 0
+  gathering_none rows = record { within = omega arith; first = gathered_none; later = refl }
 
-  -- one more pair, with rows written and counted
-  module _ (i j : ℕ) (found : List UpwardReading) (k : ℕ) (rows : List UpwardReading) (n : ℕ) (g : GatheredOnto m ch i j found k rows n) where
-    pub gathered_onto_in : (low high : ℕ) (left : List UpwardReading)
+  -- one more pair
+  module _ (i j : ℕ) (found rows : List UpwardReading) (n : ℕ) (g : Gathering m ch i j found rows n) where
+    pub gathering_in : (low high k : ℕ) (left : List UpwardReading)
         → low ≡ ch i → high ≡ ch j → true ≡ upward m ch i j → length left ≡ length rows
-        → Inserted AuditedBefore rows n (record { drop = high - low; reader = i; read = j }) true left → GatheredOnto m ch i (j + 1) found k left (n + 1)
-    gathered_onto_in low high left low_is high_is up same inserted =
+        → Inserted AuditedBefore rows n (record { drop = high - low; reader = i; read = j }) (Some k) left → Gathering m ch i (j + 1) found left k
+    gathering_in low high k left low_is high_is up same inserted =
         let row : UpwardReading = record { drop = high - low; reader = i; read = j } in
         let is : row ≡ reading_row ch i j = rw (low_is, high_is) refl in
-        let put = subst (λ (r : UpwardReading). PutIn AuditedBefore r (take n rows) (take (n + 1) left)) is (inserted_first AuditedBefore row rows n left inserted) in
-        let room = inserted.0 in (
-          omega (arith, g.0),
-          record { within = omega arith; first = gathered_more_in i j (take n rows) g.1.first (take (n + 1) left) (sym up) put },
-          inserted_later AuditedBefore row rows n left inserted ∙ same_later n (n + 1) rows found (omega arith) g.2,
-        )
+        let put = subst (λ (r : UpwardReading). PutIn AuditedBefore r (take n rows) (take (n + 1) left)) is (inserted_first AuditedBefore row rows n left k inserted) in
+        let room = inserted.0 in
+        subst (Gathering m ch i (j + 1) found left) (sym inserted.2) (record {
+          within = omega arith;
+          first = gathered_more_in i j (take n rows) g.first (take (n + 1) left) (sym up) put;
+          later = inserted_later AuditedBefore row rows n left k inserted ∙ same_later n (n + 1) rows found (omega arith) g.later;
+        })
 
-    pub gathered_onto_out : false ≡ upward m ch i j → GatheredOnto m ch i (j + 1) found k rows n
-    gathered_onto_out out = (g.0, record { within = g.1.within; first = gathered_more_out i j (take n rows) g.1.first (sym out) }, g.2)
-
-  -- what is gathered on from rows is gathered on from those that they came from
-  pub gathered_onto_then : (i j i' j' : ℕ) (found rows left : List UpwardReading) (k n n' : ℕ)
-      → GatheredOnto m ch i j found k rows n → GatheredOnto m ch i' j' rows n left n' → GatheredOnto m ch i' j' found k left n'
-  gathered_onto_then i j i' j' found rows left k n n' before after =
-      (omega (arith, before.0, after.0), after.1, after.2 ∙ same_later n n' rows found after.0 before.2)
+    pub gathering_out : false ≡ upward m ch i j → Gathering m ch i (j + 1) found rows n
+    gathering_out out = record { within = g.within; first = gathered_more_out i j (take n rows) g.first (sym out); later = g.later }
 
   module _ (l : Lawful m) where
     -- a reader is done with once all points of the book are gone through
-    pub gathered_next : (i n : ℕ) (xs : List UpwardReading) → m.size ≤ n → Gathered m ch i n xs → Gathered m ch (i + 1) 0 xs
+    gathered_next : (i n : ℕ) (xs : List UpwardReading) → m.size ≤ n → Gathered m ch i n xs → Gathered m ch (i + 1) 0 xs
     gathered_next i n xs all g =
         record {
           upward_only = λ r h. let (a, b, p, u, e) = g.upward_only r h in (a, b, inl (lower a b p), u, e);
@@ -127,10 +137,8 @@ module _ (m : Meaning) (ch : ℕ → ℕ) where
               | inr ge ↦ inr (omega arith, omega arith)
             ]
 
-    pub gathered_onto_next : (i j : ℕ) (found : List UpwardReading) (k : ℕ) (rows : List UpwardReading) (n : ℕ) → m.size ≤ j
-        → GatheredOnto m ch i j found k rows n → GatheredOnto m ch (i + 1) 0 found k rows n
-    gathered_onto_next i j found k rows n all g =
-        (g.0, record { within = g.1.within; first = gathered_next i j (take n rows) all g.1.first }, g.2)
+    pub gathering_next : (i j : ℕ) (found rows : List UpwardReading) (n : ℕ) → m.size ≤ j → Gathering m ch i j found rows n → Gathering m ch (i + 1) 0 found rows n
+    gathering_next i j found rows n all g = record { within = g.within; first = gathered_next i j (take n rows) all g.first; later = g.later }
 
     -- and the audit is done once all readers are
     pub gathered_all : (n : ℕ) (xs : List UpwardReading) → m.size ≤ n → Gathered m ch n 0 xs → AllUpward m ch xs
@@ -174,8 +182,8 @@ module _ (m : Meaning) (ch : ℕ → ℕ) where
         (all, f, omega (arith, put_length AuditedBefore (reading_row ch i j) xs ys put))
 
     -- an upward reading that finds no room means that there are more of them than rows
-    pub no_room : (i j : ℕ) (rows : List UpwardReading) (n : ℕ) → GatheredIn m ch i j rows n → true ≡ upward m ch i j → length rows ≤ n → MoreUpward m ch (length rows)
-    no_room i j rows n g up full =
+    pub no_room : (i j : ℕ) (found rows : List UpwardReading) (n : ℕ) → Gathering m ch i j found rows n → true ≡ upward m ch i j → length rows ≤ n → MoreUpward m ch (length rows)
+    no_room i j found rows n g up full =
         let same : n ≡ length rows = omega arith in
         let (all, f, more) = more_upward i j (take n rows) g.first (sym up) in
         (all, f, omega (arith, length-take-le n rows g.within))

@@ -1,11 +1,11 @@
 -- The reading chapter by chapter: what one chapter adds leaves the lower parts as they were.
-use Rattle.std.proofs.Common.{◌≡◌, ℕ, ◌+◌, ◌<◌, ◌≤◌, Bool, true, false, ◌&&◌, eqb, ltb, ◌⊎◌, sym, ◌∙◌, subst, inl, inr, eq-or-lt_of_le, arith, ltb-true, lt-ltb, eq-eqb, eqb-true}
+use Rattle.std.proofs.Common.{◌≡◌, ℕ, ◌+◌, ◌<◌, ◌≤◌, Bool, true, ◌&&◌, eqb, ltb, ◌⊎◌, sym, subst, inl, inr, eq-or-lt_of_le, arith, ltb-true, lt-ltb, eq-eqb, eqb-true}
 use Rattle.rulings.specs.Points.{Points, union}
 use Rattle.semantics.specs.Meaning.{Meaning, Lawful}
 use Rattle.semantics.specs.Closure.{IsClosure}
 use Rattle.semantics.specs.Chapters.{in_chapter, below_chapter, chapter}
 use Rattle.semantics.specs.WellFounded.{LeastPair, PartRead}
-use Rattle.semantics.proofs.Tests.{false_is_not_true, and_both, and_of, or_split, or_left, or_right}
+use Rattle.semantics.proofs.Tests.{and_both, and_of, or_split, or_left, or_right}
 use Rattle.semantics.proofs.Closures.{same_points, closure_supported}
 use Rattle.semantics.proofs.Splitting.{chapter_lawful}
 
@@ -72,14 +72,6 @@ pub record ReadBelow (m : Meaning) (ch : ℕ → ℕ) (k : ℕ) (S P : Points) :
   pub sure_low : Below ch k S
   pub possible_low : Below ch k P
   pub parts : (j : ℕ) → j < k → PartRead m ch S P j
-
-pub read_none : (m : Meaning) (ch : ℕ → ℕ) (S P : Points) → ((a : ℕ) → S a ≡ false) → ((a : ℕ) → P a ≡ false) → ReadBelow m ch 0 S P
-read_none m ch S P s p =
-    record {
-      sure_low = λ a h. false_is_not_true (sym (s a) ∙ h);
-      possible_low = λ a h. false_is_not_true (sym (p a) ∙ h);
-      parts = λ j h. absurd (omega arith);
-    }
 
 -- a closure in a chapter has only points of the chapter
 closure_in_chapter : (m : Meaning) → Lawful m → (ch : ℕ → ℕ) (k : ℕ) (U V y X : Points) → IsClosure (chapter m ch k U V) y X → Inside ch k X

@@ -72,7 +72,7 @@ module _ (m : Meaning) (ch : ℕ → ℕ) (y : Points) where
     λ s. (stable_verdict (chapter m ch k (below_chapter ch k y) (below_chapter ch k y)) (in_chapter ch k y) X v c d).1 ((stable_splits m ch l fit few y).0 s k low),
   )
 
-same_verdict : (v w : Verdict) → ◌≡◌ {A = Result Verdict Fault} (Ok v) (Ok w) → v ≡ w
+pub same_verdict : (v w : Verdict) → ◌≡◌ {A = Result Verdict Fault} (Ok v) (Ok w) → v ≡ w
 same_verdict v w e = cc
 
 -- judging whole, where there is no stray point, says stable exactly of a stable ruling

@@ -1,8 +1,8 @@
 -- The walk of a listing: what holds at each of its turns, and how it ends.
-use Rattle.std.proofs.Common.{◌≡◌, ℕ, ◌+◌, ◌-◌, ◌^◌, ◌<◌, ◌≤◌, Bool, true, false, ◌&&◌, ◌||◌, eqb, ltb, ◌↔◌, List, [], ◌∷◌, ◌++◌, length, get_or, take, drop, set, sym, refl, ap, ◌∙◌, subst, ap₂, inl, inr, append_assoc, arith, length-set, take-append-drop, pow_mono, lt-ltb}
+use Rattle.std.proofs.Common.{◌≡◌, ℕ, ◌+◌, ◌-◌, ◌^◌, ◌<◌, ◌≤◌, Bool, true, false, ◌&&◌, ◌||◌, eqb, ltb, ◌↔◌, Option, List, [], ◌∷◌, ◌++◌, length, get_or, take, drop, set, replicate, sym, refl, ap, ◌∙◌, subst, ap₂, inl, inr, append_assoc, arith, length-set, take-append-drop, lt-ltb}
 use mathlib.Core.Path.{fun_ext}
 use Rattle.std.specs.List.{ContainsAt}
-use Rattle.std.proofs.lemmas.List.{length_push, length-take-le, take_all, get_or-take, get_or-set_same, get_or-set_other}
+use Rattle.std.proofs.lemmas.List.{length_push, take_all, get_or-set_same, get_or-set_other, get_or_append_left, get_or_push, same_from_push}
 use Rattle.std.proofs.lemmas.Bool.{cases_lt, cases_Bool}
 use Rattle.rulings.specs.Points.{Points}
 use Rattle.rulings.specs.Rulings.{has}
@@ -10,7 +10,6 @@ use Rattle.rulings.specs.Order.{Precedes}
 use Rattle.rulings.specs.declared.ruling.Ruling.{Ruling}
 use Rattle.rows.specs.Rows.{Inserted}
 use Rattle.rows.proofs.Pairwise.{from_places}
-use Rattle.rows.proofs.Putting.{same_later}
 use Rattle.semantics.specs.Meaning.{Meaning, Lawful}
 use Rattle.semantics.specs.Closure.{Stable}
 use Rattle.semantics.specs.Chapters.{Sixteen, PartStable, restricted, chapter}
@@ -22,73 +21,87 @@ use Rattle.semantics.proofs.Levels.{level_holds, levels_below_all, levels_below_
 use Rattle.semantics.proofs.Restricting.{restricted_alike, same_closure}
 use Rattle.semantics.proofs.StableTest.{stable_test, stable_test_tells, stable_test_is}
 use Rattle.semantics.proofs.Walk.{completed_append, walk_completes, walk_effort}
-use Rattle.semantics.proofs.WalkSteps.{Next, next_of, none_left, completed_same, completed_more, size_at, picked, rest, try_at, passes_at, picked_set, picked_more, rest_set, rest_start, rest_miss, miss_completes, rest_hit, hit_completes, rest_climb, climb_completes, rest_back, rest_end}
+use Rattle.semantics.proofs.WalkSteps.{Next, next_of, none_left, completed_same, completed_more, size_at, picked, rest, try_at, passes_at, picked_set, picked_more, rest_start, rest_miss, miss_completes, rest_hit, hit_completes, rest_climb, climb_completes, rest_back, rest_end}
 use Rattle.semantics.proofs.Ways.{listing_of}
-use Rattle.marker.specs.declared.levels.Levels.{Levels}
+use Rattle.marker.specs.declared.marker.listing.Step.{Step}
 use Rattle.marker.specs.Listing.{NoneWide, MoreStable}
-use Rattle.marker.specs.Walk.{AreLevels, Walked}
+use Rattle.marker.specs.Walk.{Walked}
 use Rattle.marker.proofs.Found.{InRows, rows_for, not_earlier, Kept, kept_none, kept_more}
 
 -- all tries
 abbrev pub all_tries : Meaning → (ℕ → ℕ) → List Try
 all_tries m ch = walk m ch (stable_test m ch)
 
--- Where a walk is: at a candidate of a level, after some tries, with the picks of the lower levels,
--- the rulings that these make, and the rulings found in the rows.
-pub record Walking (m : Meaning) (ch : ℕ → ℕ) (found : List Ruling) (picks : List ℕ) (lowers : List Ruling) (level candidate count effort : ℕ) (rows : List Ruling) : Type 0 where
-  pub within : level < length (levels m ch)
+-- Where a walk is: at a candidate of the level above the steps set aside, over the part picked at their levels,
+-- after some tries, with the rulings found in the rows. The picks are the candidates that the steps set aside stand behind.
+pub record Walking (m : Meaning) (ch : ℕ → ℕ) (found : List Ruling) (steps : List Step) (c : ℕ) (lower : Ruling) (count effort : ℕ) (rows : List Ruling) : Type 0 where
+  pub picks : List ℕ
   pub picks_long : length picks ≡ 16
-  pub lowers_long : length lowers ≡ 16
-  pub valid : (j : ℕ) → j < level → get_or picks j 0 < size_at m ch (levels m ch) j
+  pub within : length steps < length (levels m ch)
   pub budget : effort ≤ 65536
   pub reached : effort ≤ length (all_tries m ch)
   pub counted : count ≤ effort
-  pub left : drop effort (all_tries m ch) ≡ rest m ch (stable_test m ch) (levels m ch) picks level candidate
-  pub lower : (j : ℕ) (d : Ruling) → j ≤ level → has (get_or lowers j d) ≡ picked m ch (levels m ch) picks j
+  pub left : drop effort (all_tries m ch) ≡ rest m ch (stable_test m ch) (levels m ch) picks (length steps) c
+  pub over : has lower ≡ picked m ch (levels m ch) picks (length steps)
+  pub aside : (j : ℕ) (d : Step) → j < length steps →
+      ((get_or steps j d).first ≡ get_or picks j 0 + 1) × (has (get_or steps j d).lower ≡ picked m ch (levels m ch) picks j)
   pub number : count ≡ length (completed m ch (take effort (all_tries m ch)))
   pub kept : Kept (completed m ch (take effort (all_tries m ch))) count found rows
 
--- the same count and rows under other names
-pub moved : (m : Meaning) (ch : ℕ → ℕ) (found : List Ruling) (picks : List ℕ) (lowers : List Ruling) (level candidate count count' effort : ℕ) (rows rows' : List Ruling) →
-    count' ≡ count → rows' ≡ rows → Walking m ch found picks lowers level candidate count effort rows → Walking m ch found picks lowers level candidate count' effort rows'
-moved m ch found picks lowers level candidate count count' effort rows rows' e f w =
-    subst (λ (n : ℕ). Walking m ch found picks lowers level candidate n effort rows') (sym e) (subst (Walking m ch found picks lowers level candidate count effort) (sym f) w)
+-- Where a walk is between two levels: it goes on at the last of its steps, and without any it is done.
+pub record Paused (m : Meaning) (ch : ℕ → ℕ) (found : List Ruling) (steps : List Step) (count effort : ℕ) (rows : List Ruling) : Type 0 where
+  pub budget : effort ≤ 65536
+  pub going : (front : List Step) (s : Step) → steps ≡ front ++ s ∷ [] → Walking m ch found front s.first s.lower count effort rows
+  pub done : steps ≡ [] → Walked m ch found (record { rows = count; effort = effort }) rows
+
+-- the same steps, count and rows under other names
+pub moved : (m : Meaning) (ch : ℕ → ℕ) (found : List Ruling) (steps steps' : List Step) (c : ℕ) (lower : Ruling) (count count' effort : ℕ) (rows rows' : List Ruling) →
+    steps' ≡ steps → count' ≡ count → rows' ≡ rows → Walking m ch found steps c lower count effort rows → Walking m ch found steps' c lower count' effort rows'
+moved m ch found steps steps' c lower count count' effort rows rows' d e f w =
+    subst (λ (ss : List Step). Walking m ch found ss c lower count' effort rows') (sym d)
+    (subst (λ (n : ℕ). Walking m ch found steps c lower n effort rows') (sym e) (subst (Walking m ch found steps c lower count effort) (sym f) w))
+
+-- a walk that goes on at its last step
+pub paused_at : (m : Meaning) (ch : ℕ → ℕ) (found : List Ruling) (front : List Step) (s : Step) (count effort : ℕ) (rows : List Ruling) →
+    Walking m ch found front s.first s.lower count effort rows → Paused m ch found (front ++ s ∷ []) count effort rows
+paused_at m ch found front s count effort rows w =
+    record {
+      budget = w.budget;
+      going = λ front' s' e.
+          let (fronts, steps) = same_from_push front front' s s' e in
+          subst (λ (fs : List Step). Walking m ch found fs s'.first s'.lower count effort rows) fronts
+          (subst (λ (t : Step). Walking m ch found front t.first t.lower count effort rows) steps w);
+      done = λ e. absurd (omega (arith, ap length e, length_push front s));
+    }
 
 -- there are at most sixteen levels
 few_levels : (m : Meaning) (ch : ℕ → ℕ) → length (levels m ch) ≤ 16
 few_levels m ch = subst (λ (ks : List ℕ). length ks ≤ 16) (levels_below_all m ch) (levels_below_few m ch 16)
 
--- the levels as the code keeps them
-module _ (m : Meaning) (ch : ℕ → ℕ) (kept : Levels) (are : AreLevels m ch kept) where
-  pub levels_count : length (levels m ch) ≡ kept.count
-  levels_count = sym (ap length are.those) ∙ length-take-le kept.count kept.numbers (omega (arith, are.few, are.long))
+-- a level's points, and how many candidates it has
+pub record Level (m : Meaning) (ch : ℕ → ℕ) (level : ℕ) (points : Ruling) (size : ℕ) : Type 0 where
+  pub those : has points ≡ points_of m ch (get_or (levels m ch) level 0)
+  pub many : size ≡ size_at m ch (levels m ch) level
 
-  module _ (level : ℕ) (within : level < length (levels m ch)) where
-    pub level_number : get_or kept.numbers level 0 ≡ get_or (levels m ch) level 0
-    level_number =
-        sym (get_or-take kept.count kept.numbers level 0 (let n = levels_count in omega arith)) ∙ ap (λ (ks : List ℕ). get_or ks level 0) are.those
+-- as the code finds them, by the number of the level's chapter
+module _ (m : Meaning) (ch : ℕ → ℕ) (level number width_is : ℕ) (is : number ≡ get_or (levels m ch) level 0) (wide : width_is ≡ width m ch number) where
+  pub level_narrow : NoneWide m ch → level < length (levels m ch) → width_is ≤ 12
+  level_narrow narrow within =
+      let n = narrow (get_or (levels m ch) level 0) (level_holds m ch level within).0 in
+      let f = wide ∙ ap (width m ch) is in
+      omega arith
 
-    pub level_narrow : NoneWide m ch → (r : ℕ) → r ≡ width m ch (get_or kept.numbers level 0) → r ≤ 12
-    level_narrow narrow r e =
-        let n = narrow (get_or (levels m ch) level 0) (level_holds m ch level within).0 in
-        let i = e ∙ ap (width m ch) level_number in
-        omega arith
+  pub level_of : (points : Ruling) (size : ℕ) → has points ≡ points_of m ch number → size ≡ 2 ^ width_is → Level m ch level points size
+  level_of points size those many =
+      record { those = those ∙ ap (points_of m ch) is; many = many ∙ ap (λ (n : ℕ). 2 ^ n) (wide ∙ ap (width m ch) is) }
 
-    pub level_small : NoneWide m ch → size_at m ch (levels m ch) level ≤ 4096
-    level_small narrow = pow_mono (narrow (get_or (levels m ch) level 0) (level_holds m ch level within).0)
+-- a candidate is one of the level's, or past them
+module _ (m : Meaning) (ch : ℕ → ℕ) (level : ℕ) (points : Ruling) (size c : ℕ) (h : Level m ch level points size) where
+  pub one_more : c < size → c < size_at m ch (levels m ch) level
+  one_more l = subst (λ (n : ℕ). c < n) h.many l
 
-    -- the number of candidates and the points, read where the level was entered
-    pub level_size : (entered r s : ℕ) → level ≡ entered → r ≡ width m ch (get_or kept.numbers entered 0) → s ≡ 2 ^ r → s ≡ size_at m ch (levels m ch) level
-    level_size entered r s at e f =
-        f ∙ ap (λ (n : ℕ). 2 ^ n) (e ∙ ap (width m ch) (ap (λ (j : ℕ). get_or kept.numbers j 0) (sym at) ∙ level_number))
-
-    pub level_points : (entered : ℕ) (D : Points) → level ≡ entered → D ≡ points_of m ch (get_or kept.numbers entered 0) → D ≡ points_of m ch (get_or (levels m ch) level 0)
-    level_points entered D at e = e ∙ ap (points_of m ch) (ap (λ (j : ℕ). get_or kept.numbers j 0) (sym at) ∙ level_number)
-
--- a candidate tried at a level: whether it is stable, and the ruling that it makes with the lower part
-pub record Tried (m : Meaning) (ch : ℕ → ℕ) (picks : List ℕ) (level c : ℕ) (stable : Bool) (ruling : Ruling) : Type 0 where
-  pub told : stable ≡ passes_at m ch (stable_test m ch) (levels m ch) picks level c
-  pub is : has ruling ≡ with_candidate m ch (get_or (levels m ch) level 0) (picked m ch (levels m ch) picks level) c
+  pub no_more : size ≤ c → size_at m ch (levels m ch) level ≤ c
+  no_more l = subst (λ (n : ℕ). n ≤ c) h.many l
 
 and_true : (s t : Bool) → t ≡ true → s && t ≡ s
 and_true true t e = e
@@ -133,181 +146,190 @@ module _ (m : Meaning) (l : Lawful m) (ch : ℕ → ℕ) where
         small x there a e =
             omega (arith, l.few_points, filled_inside m l ch 16 x (record { lower = λ b f. few b; stable = every.only x there }) a e)
 
-    pub walk_start : (found : List Ruling) (picks : List ℕ) (lowers : List Ruling) → length picks ≡ 16 → length lowers ≡ 16 →
-        ((d : Ruling) (a : ℕ) → has (get_or lowers 0 d) a ≡ false) → Walking m ch found picks lowers 0 0 0 0 found
+    pub walk_start : (found : List Ruling) (s : Step) → s.first ≡ 0 → ((a : ℕ) → has s.lower a ≡ false) → Walking m ch found [] s.first s.lower 0 0 found
     unfolding completed picked
-    walk_start found picks lowers long long' empty =
+    walk_start found s first empty =
         record {
+          picks = replicate 16 0;
+          picks_long = refl;
           within = some_level m l ch few;
-          picks_long = long;
-          lowers_long = long';
-          valid = λ j h. absurd (omega arith);
           budget = omega arith;
           reached = omega arith;
           counted = omega arith;
-          left = rest_start m ch (stable_test m ch) (levels m ch) picks (some_level m l ch few);
-          lower = λ j d h. let e : j ≡ 0 = omega arith in rw e (fun_ext (empty d));
+          left = rest_start m ch (stable_test m ch) (levels m ch) (replicate 16 0) (some_level m l ch few) ∙ ap (rest m ch (stable_test m ch) (levels m ch) (replicate 16 0) 0) (sym first);
+          over = fun_ext empty;
+          aside = λ j d h. absurd (omega arith);
           number = refl;
           kept = kept_none found;
         }
 
-    module _ (found : List Ruling) (picks : List ℕ) (lowers : List Ruling) (level c count effort : ℕ) (rows : List Ruling)
-        (w : Walking m ch found picks lowers level c count effort rows) where
-      -- what was kept of the rows from here on is kept of those found at the start
-      pub walk_onto : (picks' : List ℕ) (lowers' : List Ruling) (level' c' count' effort' : ℕ) (rows' : List Ruling) → count ≤ count' →
-          Walking m ch rows picks' lowers' level' c' count' effort' rows' → Walking m ch found picks' lowers' level' c' count' effort' rows'
-      walk_onto picks' lowers' level' c' count' effort' rows' h v =
-          record {
-            within = v.within;
-            picks_long = v.picks_long;
-            lowers_long = v.lowers_long;
-            valid = v.valid;
-            budget = v.budget;
-            reached = v.reached;
-            counted = v.counted;
-            left = v.left;
-            lower = v.lower;
-            number = v.number;
-            kept =
-                record {
-                  as_long = v.kept.as_long ∙ w.kept.as_long;
-                  later = v.kept.later ∙ same_later count count' rows found h w.kept.later;
-                  first = v.kept.first;
-                };
-          }
+    module _ (found : List Ruling) (steps : List Step) (c : ℕ) (lower : Ruling) (count effort : ℕ) (rows : List Ruling)
+        (w : Walking m ch found steps c lower count effort rows) where
+      -- a candidate tried, over the points of its level
+      module _ (points part : Ruling) (size : ℕ) (h : Level m ch (length steps) points size) (part_is : has part ≡ spread (has points) c) where
+        spreads : has part ≡ spread (points_of m ch (get_or (levels m ch) (length steps) 0)) c
+        spreads = part_is ∙ ap (λ (D : Points). spread D c) h.those
 
-      pub tried : (points part lower lower' ruling : Ruling) (stable : Bool) → has points ≡ points_of m ch (get_or (levels m ch) level 0) → has part ≡ spread (has points) c →
-          has lower ≡ picked m ch (levels m ch) picks level → has lower' ≡ picked m ch (levels m ch) picks level → (stable ≡ true) ↔ Stable (restricted m (has points) (has lower) (has lower)) (has part) →
-          ((a : ℕ) → has ruling a ≡ has lower' a || has part a) → Tried m ch picks level c stable ruling
-      tried points part lower lower' ruling stable points_are part_is lower_is lower'_is decides joins =
-          record {
-            told = stable_test_is m l ch (get_or (levels m ch) level 0) (picked m ch (levels m ch) picks level) c stable
-                (tested (get_or (levels m ch) level 0) (has points) (picked m ch (levels m ch) picks level) (has part) c stable points_are spreads
-                (subst (λ (U : Points). (stable ≡ true) ↔ Stable (restricted m (has points) U U) (has part)) lower_is decides));
-            is = fun_ext (λ a. joins a ∙ ap₂ ◌||◌ (ap (λ (x : Points). x a) lower'_is) (ap (λ (x : Points). x a) spreads));
-          }
-        where
-          spreads : has part ≡ spread (points_of m ch (get_or (levels m ch) level 0)) c
-          spreads = part_is ∙ ap (λ (D : Points). spread D c) points_are
+        -- whether it is stable
+        pub told : (stable : Bool) → (stable ≡ true) ↔ Stable (restricted m (has points) (has lower) (has lower)) (has part) →
+            stable ≡ passes_at m ch (stable_test m ch) (levels m ch) w.picks (length steps) c
+        told stable decides =
+            stable_test_is m l ch (get_or (levels m ch) (length steps) 0) (picked m ch (levels m ch) w.picks (length steps)) c stable
+            (tested (get_or (levels m ch) (length steps) 0) (has points) (picked m ch (levels m ch) w.picks (length steps)) (has part) c stable h.those spreads
+            (subst (λ (U : Points). (stable ≡ true) ↔ Stable (restricted m (has points) U U) (has part)) w.over decides))
 
-      -- no candidate is left: back to the level below
-      pub walk_back : 0 < level → size_at m ch (levels m ch) level ≤ c → Walking m ch found picks lowers (level - 1) (get_or picks (level - 1) 0 + 1) count effort rows
-      walk_back h q =
-          record {
-            within = omega (arith, w.within);
-            picks_long = w.picks_long;
-            lowers_long = w.lowers_long;
-            valid = λ j b. w.valid j (omega arith);
-            budget = w.budget;
-            reached = w.reached;
-            counted = w.counted;
-            left = w.left ∙ rest_back m ch (stable_test m ch) (levels m ch) picks level c h q;
-            lower = λ j d b. w.lower j d (omega arith);
-            number = w.number;
-            kept = w.kept;
-          }
+        -- the ruling that it makes with the lower part
+        pub joined : (ruling : Ruling) → ((a : ℕ) → has ruling a ≡ has lower a || has part a) →
+            has ruling ≡ with_candidate m ch (get_or (levels m ch) (length steps) 0) (picked m ch (levels m ch) w.picks (length steps)) c
+        joined ruling joins = fun_ext (λ a. joins a ∙ ap₂ ◌||◌ (ap (λ (x : Points). x a) w.over) (ap (λ (x : Points). x a) spreads))
 
-      -- and at the lowest level the walk is done
-      pub walk_done : level ≡ 0 → size_at m ch (levels m ch) level ≤ c → Walked m ch found (record { rows = count; effort = effort }) rows
-      walk_done z q =
-          record {
-            as_long = w.kept.as_long;
-            past = λ h. absurd (omega (arith, w.budget));
-            spent = λ h. subst (Effort m ch) (sym done) effort_is;
-            listed = λ h room. (in_row_order (take count rows) (subst (λ (xs : List Points). InRows xs (take count rows)) same (w.kept.first (omega (arith, w.kept.as_long)))), w.kept.later);
-            more = λ h full. all_found (length found) (let n = w.number in let e = ap length same in omega arith);
-          }
-        where
-          done : effort ≡ length (all_tries m ch)
-          done =
-              none_left (all_tries m ch) effort w.reached
-              (w.left ∙ (ap (λ (j : ℕ). rest m ch (stable_test m ch) (levels m ch) picks j c) z
-              ∙ rest_end m ch (stable_test m ch) (levels m ch) picks c (subst (λ (j : ℕ). size_at m ch (levels m ch) j ≤ c) z q)))
+      -- no candidate is left
+      module _ (q : size_at m ch (levels m ch) (length steps) ≤ c) where
+        -- back to the last step set aside
+        back : (front : List Step) (s : Step) → steps ≡ front ++ s ∷ [] → Walking m ch found front s.first s.lower count effort rows
+        back front s e =
+            record {
+              picks = w.picks;
+              picks_long = w.picks_long;
+              within = omega (arith, long, w.within);
+              budget = w.budget;
+              reached = w.reached;
+              counted = w.counted;
+              left =
+                  w.left ∙ (rest_back m ch (stable_test m ch) (levels m ch) w.picks (length steps) c (omega (arith, long)) q
+                  ∙ (ap (λ (j : ℕ). rest m ch (stable_test m ch) (levels m ch) w.picks j (get_or w.picks j 0 + 1)) below
+                  ∙ ap (rest m ch (stable_test m ch) (levels m ch) w.picks (length front)) (sym last.0)));
+              over = last.1;
+              aside = λ j d h.
+                  subst (λ (t : Step). (t.first ≡ get_or w.picks j 0 + 1) × (has t.lower ≡ picked m ch (levels m ch) w.picks j))
+                  (ap (λ (ss : List Step). get_or ss j d) e ∙ get_or_append_left front (s ∷ []) d j h) (w.aside j d (omega (arith, long)));
+              number = w.number;
+              kept = w.kept;
+            }
+          where
+            long : length steps ≡ length front + 1
+            long = ap length e ∙ length_push front s
 
-          same : completed m ch (take effort (all_tries m ch)) ≡ completed m ch (all_tries m ch)
-          same = ap (completed m ch) (take_all effort (all_tries m ch) (let e = done in omega arith))
+            below : length steps - 1 ≡ length front
+            below = omega (arith, long)
 
-      module _ (more : c < size_at m ch (levels m ch) level) where
-        in_picks : level < length picks
+            last : (s.first ≡ get_or w.picks (length front) 0 + 1) × (has s.lower ≡ picked m ch (levels m ch) w.picks (length front))
+            last =
+                subst (λ (t : Step). (t.first ≡ get_or w.picks (length front) 0 + 1) × (has t.lower ≡ picked m ch (levels m ch) w.picks (length front)))
+                (ap (λ (ss : List Step). get_or ss (length front) s) e ∙ get_or_push front s s (length front) refl) (w.aside (length front) s (omega (arith, long)))
+
+        -- or the walk is done
+        none_aside : steps ≡ [] → Walked m ch found (record { rows = count; effort = effort }) rows
+        none_aside z =
+            record {
+              as_long = w.kept.as_long;
+              past = λ h. absurd (omega (arith, w.budget));
+              spent = λ h. subst (Effort m ch) (sym done) effort_is;
+              listed = λ h room. (in_row_order (take count rows) (subst (λ (xs : List Points). InRows xs (take count rows)) same (w.kept.first (omega (arith, w.kept.as_long)))), w.kept.later);
+              more = λ h full. all_found (length found) (let n = w.number in let e = ap length same in omega arith);
+            }
+          where
+            lowest : length steps ≡ 0
+            lowest = ap length z
+
+            done : effort ≡ length (all_tries m ch)
+            done =
+                none_left (all_tries m ch) effort w.reached
+                (w.left ∙ (ap (λ (j : ℕ). rest m ch (stable_test m ch) (levels m ch) w.picks j c) lowest
+                ∙ rest_end m ch (stable_test m ch) (levels m ch) w.picks c (subst (λ (j : ℕ). size_at m ch (levels m ch) j ≤ c) lowest q)))
+
+            same : completed m ch (take effort (all_tries m ch)) ≡ completed m ch (all_tries m ch)
+            same = ap (completed m ch) (take_all effort (all_tries m ch) (let e = done in omega arith))
+
+        pub walk_back : Paused m ch found steps count effort rows
+        walk_back = record { budget = w.budget; going = back; done = none_aside }
+
+      module _ (more : c < size_at m ch (levels m ch) (length steps)) where
+        in_picks : length steps < length w.picks
         in_picks = let n = few_levels m ch in omega (arith, w.within, w.picks_long)
 
-        valid_set : (j : ℕ) → j < level → get_or (set picks level c) j 0 < size_at m ch (levels m ch) j
-        valid_set j h = subst (λ (n : ℕ). n < size_at m ch (levels m ch) j) (sym (get_or-set_other picks level j c 0 (λ e. omega arith))) (w.valid j h)
-
-        lower_set : (j : ℕ) (d : Ruling) → j ≤ level → has (get_or lowers j d) ≡ picked m ch (levels m ch) (set picks level c) j
-        lower_set j d h = w.lower j d h ∙ sym (picked_set m ch (stable_test m ch) (levels m ch) picks level c j h)
-
         -- a candidate that is not stable
-        module _ (fails : passes_at m ch (stable_test m ch) (levels m ch) picks level c ≡ false) where
-          miss : Next (all_tries m ch) effort (try_at m ch (stable_test m ch) (levels m ch) picks level c) (rest m ch (stable_test m ch) (levels m ch) picks level (c + 1))
-          miss = next_of (all_tries m ch) effort _ _ (w.left ∙ rest_miss m ch (stable_test m ch) (levels m ch) picks level c more fails)
+        module _ (fails : passes_at m ch (stable_test m ch) (levels m ch) w.picks (length steps) c ≡ false) where
+          miss : Next (all_tries m ch) effort (try_at m ch (stable_test m ch) (levels m ch) w.picks (length steps) c) (rest m ch (stable_test m ch) (levels m ch) w.picks (length steps) (c + 1))
+          miss = next_of (all_tries m ch) effort _ _ (w.left ∙ rest_miss m ch (stable_test m ch) (levels m ch) w.picks (length steps) c more fails)
 
           same_so_far : completed m ch (take (effort + 1) (all_tries m ch)) ≡ completed m ch (take effort (all_tries m ch))
-          same_so_far = completed_same m ch (all_tries m ch) effort _ _ miss (miss_completes m ch (stable_test m ch) (levels m ch) picks level c fails)
+          same_so_far = completed_same m ch (all_tries m ch) effort _ _ miss (miss_completes m ch (stable_test m ch) (levels m ch) w.picks (length steps) c fails)
 
-          pub walk_miss : effort < 65536 → Walking m ch found (set picks level c) lowers level (c + 1) count (effort + 1) rows
+          pub walk_miss : effort < 65536 → Walking m ch found steps (c + 1) lower count (effort + 1) rows
           walk_miss room =
               record {
+                picks = w.picks;
+                picks_long = w.picks_long;
                 within = w.within;
-                picks_long = length-set picks level c ∙ w.picks_long;
-                lowers_long = w.lowers_long;
-                valid = valid_set;
                 budget = omega arith;
                 reached = omega (arith, miss.inside);
                 counted = omega (arith, w.counted);
-                left = miss.dropped ∙ sym (rest_set m ch (stable_test m ch) (levels m ch) picks level c (c + 1));
-                lower = lower_set;
+                left = miss.dropped;
+                over = w.over;
+                aside = w.aside;
                 number = w.number ∙ ap length (sym same_so_far);
                 kept = subst (λ (xs : List Points). Kept xs count found rows) (sym same_so_far) w.kept;
               }
 
         -- a stable candidate, with the ruling that it makes
-        module _ (passed : passes_at m ch (stable_test m ch) (levels m ch) picks level c ≡ true) (ruling : Ruling)
-            (is : has ruling ≡ with_candidate m ch (get_or (levels m ch) level 0) (picked m ch (levels m ch) picks level) c) where
-          -- below the last level: up one level
-          module _ (higher : level + 1 < length (levels m ch)) where
-            climb : Next (all_tries m ch) effort (try_at m ch (stable_test m ch) (levels m ch) picks level c) (rest m ch (stable_test m ch) (levels m ch) (set picks level c) (level + 1) 0)
-            climb = next_of (all_tries m ch) effort _ _ (w.left ∙ rest_climb m ch (stable_test m ch) (levels m ch) picks level c more passed higher in_picks)
+        module _ (passed : passes_at m ch (stable_test m ch) (levels m ch) w.picks (length steps) c ≡ true) (ruling : Ruling)
+            (is : has ruling ≡ with_candidate m ch (get_or (levels m ch) (length steps) 0) (picked m ch (levels m ch) w.picks (length steps)) c) where
+          -- below the last level: the step is set aside, and the walk goes up one level
+          module _ (higher : length steps + 1 < length (levels m ch)) where
+            climb : Next (all_tries m ch) effort (try_at m ch (stable_test m ch) (levels m ch) w.picks (length steps) c) (rest m ch (stable_test m ch) (levels m ch) (set w.picks (length steps) c) (length steps + 1) 0)
+            climb = next_of (all_tries m ch) effort _ _ (w.left ∙ rest_climb m ch (stable_test m ch) (levels m ch) w.picks (length steps) c more passed higher in_picks)
 
             nothing_new : completed m ch (take (effort + 1) (all_tries m ch)) ≡ completed m ch (take effort (all_tries m ch))
-            nothing_new = completed_same m ch (all_tries m ch) effort _ _ climb (climb_completes m ch (stable_test m ch) (levels m ch) picks level c higher)
+            nothing_new = completed_same m ch (all_tries m ch) effort _ _ climb (climb_completes m ch (stable_test m ch) (levels m ch) w.picks (length steps) c higher)
 
-            pub walk_climb : effort < 65536 → Walking m ch found (set picks level c) (set lowers (level + 1) ruling) (level + 1) 0 count (effort + 1) rows
+            pub walk_climb : effort < 65536 → Walking m ch found (steps ++ record { first = c + 1; lower = lower } ∷ []) 0 ruling count (effort + 1) rows
             walk_climb room =
                 record {
-                  within = higher;
-                  picks_long = length-set picks level c ∙ w.picks_long;
-                  lowers_long = length-set lowers (level + 1) ruling ∙ w.lowers_long;
-                  valid = λ j h. elim (cases_lt j level) [
-                    | inl b ↦ valid_set j b
-                    | inr b ↦
-                        let e : j ≡ level = omega arith in
-                        rw e (subst (λ (n : ℕ). n < size_at m ch (levels m ch) level) (sym (get_or-set_same picks level c 0 in_picks)) more)
-                  ];
+                  picks = set w.picks (length steps) c;
+                  picks_long = length-set w.picks (length steps) c ∙ w.picks_long;
+                  within = omega (arith, one_more_step);
                   budget = omega arith;
                   reached = omega (arith, climb.inside);
                   counted = omega (arith, w.counted);
-                  left = climb.dropped;
-                  lower = λ j d h. elim (cases_lt level j) [
+                  left = climb.dropped ∙ ap (λ (j : ℕ). rest m ch (stable_test m ch) (levels m ch) (set w.picks (length steps) c) j 0) (sym one_more_step);
+                  over =
+                      is ∙ (sym (picked_more m ch (stable_test m ch) (levels m ch) w.picks (length steps) c in_picks)
+                      ∙ ap (picked m ch (levels m ch) (set w.picks (length steps) c)) (sym one_more_step));
+                  aside = λ j d h. elim (cases_lt j (length steps)) [
                     | inl b ↦
-                        let e : j ≡ level + 1 = omega arith in
-                        let n = few_levels m ch in
-                        rw e (ap has (get_or-set_same lowers (level + 1) ruling d (omega (arith, w.lowers_long)))
-                        ∙ (is ∙ sym (picked_more m ch (stable_test m ch) (levels m ch) picks level c in_picks)))
-                    | inr b ↦ ap has (get_or-set_other lowers (level + 1) j ruling d (λ e. omega arith)) ∙ lower_set j d b
+                        subst (λ (t : Step). (t.first ≡ get_or (set w.picks (length steps) c) j 0 + 1) × (has t.lower ≡ picked m ch (levels m ch) (set w.picks (length steps) c) j))
+                        (sym (get_or_append_left steps (set_aside ∷ []) d j b)) (
+                          (w.aside j d b).0 ∙ ap (λ (n : ℕ). n + 1) (sym (get_or-set_other w.picks (length steps) j c 0 (λ e. omega arith))),
+                          (w.aside j d b).1 ∙ sym (picked_set m ch (stable_test m ch) (levels m ch) w.picks (length steps) c j (omega arith)),
+                        )
+                    | inr b ↦
+                        let e : j ≡ length steps = omega (arith, one_more_step) in
+                        subst (λ (i : ℕ). ((get_or (steps ++ set_aside ∷ []) i d).first ≡ get_or (set w.picks (length steps) c) i 0 + 1) × (has (get_or (steps ++ set_aside ∷ []) i d).lower ≡ picked m ch (levels m ch) (set w.picks (length steps) c) i)) (sym e)
+                        (subst (λ (t : Step). (t.first ≡ get_or (set w.picks (length steps) c) (length steps) 0 + 1) × (has t.lower ≡ picked m ch (levels m ch) (set w.picks (length steps) c) (length steps)))
+                        (sym (get_or_push steps set_aside d (length steps) refl)) (
+                          ap (λ (n : ℕ). n + 1) (sym (get_or-set_same w.picks (length steps) c 0 in_picks)),
+                          w.over ∙ sym (picked_set m ch (stable_test m ch) (levels m ch) w.picks (length steps) c (length steps) (omega arith)),
+                        ))
                   ];
                   number = w.number ∙ ap length (sym nothing_new);
                   kept = subst (λ (xs : List Points). Kept xs count found rows) (sym nothing_new) w.kept;
                 }
+              where
+                set_aside : Step
+                set_aside = record { first = c + 1; lower = lower }
+
+                one_more_step : length (steps ++ set_aside ∷ []) ≡ length steps + 1
+                one_more_step = length_push steps set_aside
 
           -- at the last level: one more ruling is found
-          module _ (top : length (levels m ch) ≤ level + 1) where
-            hit : Next (all_tries m ch) effort (try_at m ch (stable_test m ch) (levels m ch) picks level c) (rest m ch (stable_test m ch) (levels m ch) picks level (c + 1))
-            hit = next_of (all_tries m ch) effort _ _ (w.left ∙ rest_hit m ch (stable_test m ch) (levels m ch) picks level c more passed top)
+          module _ (top : length (levels m ch) ≤ length steps + 1) where
+            hit : Next (all_tries m ch) effort (try_at m ch (stable_test m ch) (levels m ch) w.picks (length steps) c) (rest m ch (stable_test m ch) (levels m ch) w.picks (length steps) (c + 1))
+            hit = next_of (all_tries m ch) effort _ _ (w.left ∙ rest_hit m ch (stable_test m ch) (levels m ch) w.picks (length steps) c more passed top)
 
-            one_more : completed m ch (take (effort + 1) (all_tries m ch)) ≡ completed m ch (take effort (all_tries m ch)) ++ has ruling ∷ []
-            one_more =
-                completed_more m ch (all_tries m ch) effort _ _ hit (hit_completes m ch (stable_test m ch) (levels m ch) picks level c passed top)
+            one_ruling_more : completed m ch (take (effort + 1) (all_tries m ch)) ≡ completed m ch (take effort (all_tries m ch)) ++ has ruling ∷ []
+            one_ruling_more =
+                completed_more m ch (all_tries m ch) effort _ _ hit (hit_completes m ch (stable_test m ch) (levels m ch) w.picks (length steps) c passed top)
                 ∙ ap (λ (x : Points). completed m ch (take effort (all_tries m ch)) ++ x ∷ []) (sym is)
 
             new : ContainsAt (completed m ch (take effort (all_tries m ch))) (has ruling) → ⊥
@@ -316,42 +338,42 @@ module _ (m : Meaning) (l : Lawful m) (ch : ℕ → ℕ) where
                 (subst Distinct
                 (ap (completed m ch) (sym (take-append-drop (effort + 1) (all_tries m ch)))
                 ∙ (completed_append m ch (take (effort + 1) (all_tries m ch)) (drop (effort + 1) (all_tries m ch))
-                ∙ (ap (λ (xs : List Points). xs ++ completed m ch (drop (effort + 1) (all_tries m ch))) one_more
+                ∙ (ap (λ (xs : List Points). xs ++ completed m ch (drop (effort + 1) (all_tries m ch))) one_ruling_more
                 ∙ append_assoc (completed m ch (take effort (all_tries m ch))) (has ruling ∷ []) (completed m ch (drop (effort + 1) (all_tries m ch))))))
                 distinct)
 
-            pub walk_hit : effort < 65536 → (r : Bool) (rows' : List Ruling) → length rows' ≡ length rows → Inserted Precedes rows count ruling r rows' →
-                Walking m ch found (set picks level c) lowers level (c + 1) (count + 1) (effort + 1) rows'
+            pub walk_hit : effort < 65536 → (r : Option ℕ) (rows' : List Ruling) → length rows' ≡ length rows → Inserted Precedes rows count ruling r rows' →
+                Walking m ch found steps (c + 1) lower (count + 1) (effort + 1) rows'
             walk_hit room r rows' long inserted =
                 record {
+                  picks = w.picks;
+                  picks_long = w.picks_long;
                   within = w.within;
-                  picks_long = length-set picks level c ∙ w.picks_long;
-                  lowers_long = w.lowers_long;
-                  valid = valid_set;
                   budget = omega arith;
                   reached = omega (arith, hit.inside);
                   counted = omega (arith, w.counted);
-                  left = hit.dropped ∙ sym (rest_set m ch (stable_test m ch) (levels m ch) picks level c (c + 1));
-                  lower = lower_set;
-                  number = sym (ap length one_more ∙ (length_push (completed m ch (take effort (all_tries m ch))) (has ruling) ∙ ap (λ (n : ℕ). n + 1) (sym w.number)));
-                  kept = subst (λ (xs : List Points). Kept xs (count + 1) found rows') (sym one_more)
+                  left = hit.dropped;
+                  over = w.over;
+                  aside = w.aside;
+                  number = sym (ap length one_ruling_more ∙ (length_push (completed m ch (take effort (all_tries m ch))) (has ruling) ∙ ap (λ (n : ℕ). n + 1) (sym w.number)));
+                  kept = subst (λ (xs : List Points). Kept xs (count + 1) found rows') (sym one_ruling_more)
                       (kept_more (completed m ch (take effort (all_tries m ch))) count found rows rows' (has ruling) ruling r refl new long inserted w.kept);
                 }
 
         -- a try is left
         pub walk_inside : effort < length (all_tries m ch)
         walk_inside =
-            elim (cases_Bool (passes_at m ch (stable_test m ch) (levels m ch) picks level c)) [
+            elim (cases_Bool (passes_at m ch (stable_test m ch) (levels m ch) w.picks (length steps) c)) [
               | inr e ↦ (miss e).inside
-              | inl e ↦ elim (cases_lt (level + 1) (length (levels m ch))) [
+              | inl e ↦ elim (cases_lt (length steps + 1) (length (levels m ch))) [
                 | inl h ↦
-                    (next_of (all_tries m ch) effort (try_at m ch (stable_test m ch) (levels m ch) picks level c)
-                    (rest m ch (stable_test m ch) (levels m ch) (set picks level c) (level + 1) 0)
-                    (w.left ∙ rest_climb m ch (stable_test m ch) (levels m ch) picks level c more e h in_picks)).inside
+                    (next_of (all_tries m ch) effort (try_at m ch (stable_test m ch) (levels m ch) w.picks (length steps) c)
+                    (rest m ch (stable_test m ch) (levels m ch) (set w.picks (length steps) c) (length steps + 1) 0)
+                    (w.left ∙ rest_climb m ch (stable_test m ch) (levels m ch) w.picks (length steps) c more e h in_picks)).inside
                 | inr h ↦
-                    (next_of (all_tries m ch) effort (try_at m ch (stable_test m ch) (levels m ch) picks level c)
-                    (rest m ch (stable_test m ch) (levels m ch) picks level (c + 1))
-                    (w.left ∙ rest_hit m ch (stable_test m ch) (levels m ch) picks level c more e h)).inside
+                    (next_of (all_tries m ch) effort (try_at m ch (stable_test m ch) (levels m ch) w.picks (length steps) c)
+                    (rest m ch (stable_test m ch) (levels m ch) w.picks (length steps) (c + 1))
+                    (w.left ∙ rest_hit m ch (stable_test m ch) (levels m ch) w.picks (length steps) c more e h)).inside
               ]
             ]
 

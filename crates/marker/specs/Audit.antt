@@ -1,5 +1,5 @@
 -- The audit: all upward readings, each once, in their order.
-use Rattle.std.specs.Prelude.{◌≡◌, ℕ, ◌-◌, ◌<◌, ◌≤◌, true, List, length, take, drop, replicate, Ok, Err, Result}
+use Rattle.std.specs.Prelude.{◌≡◌, ℕ, ◌-◌, ◌<◌, ◌≤◌, true, List, length, take, drop, replicate, Some, None, Ok, Err, Option, Result}
 use Rattle.std.specs.List.{ContainsAt}
 use Rattle.rows.specs.Rows.{StrictlyInOrder}
 use Rattle.semantics.specs.Meaning.{Meaning}
@@ -34,3 +34,9 @@ Audited m ch found (Err f) left =
     (f ≡ fault_of layer.Marker ListTooShort)
     × MoreUpward m ch (length found)
     × (left ≡ replicate (length found) zero_row)
+
+-- what an audit leaves before it answers: nothing where the rows do not suffice; no public contract cites this
+abbrev pub Gathers : Meaning → (ℕ → ℕ) → List UpwardReading → Option ℕ → List UpwardReading → Type 0
+Gathers m ch found (Some n) left =
+    (n ≤ length found) × AllUpward m ch (take n left) × (drop n left ≡ drop n found)
+Gathers m ch found None left = MoreUpward m ch (length found)

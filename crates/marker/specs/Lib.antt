@@ -3,6 +3,5 @@ pub mod State
 pub mod Judging
 pub mod Reading
 pub mod Audit
-pub mod Gathering
 pub mod Listing
 pub mod Walk

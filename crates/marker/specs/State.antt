@@ -15,6 +15,10 @@ book_of m = m.book
 abbrev pub chapters_of : {B : Type 0} → Marker B → Chapters
 chapters_of m = m.chapters
 
+-- where the points of a marker are placed: the chapter of each
+abbrev pub placing : {B : Type 0} → Marker B → ℕ → ℕ
+placing m = chapter_of m.chapters
+
 -- an accepted opening puts every chapter to 0, a refused one leaves the chapters as found
 abbrev pub ChaptersOpened : Outcome → Chapters → Chapters → Type 0
 ChaptersOpened (Ok _) c c' = AllInChapter0 c'

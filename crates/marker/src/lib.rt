@@ -1,7 +1,6 @@
 // The marker: a book of any sort with a chapter for each point, and its calls.
 #![tactic(auto)]
 
-mod levels;
 mod marker;
 
 // What the questions answer.

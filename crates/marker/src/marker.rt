@@ -9,6 +9,7 @@ mod changes;
 mod judging;
 mod listing;
 mod reading;
+mod refusing;
 
 // Nothing hands out the book: it is changed only through the marker's calls.
 #[derive(Drop)]

@@ -1,26 +1,16 @@
 -- Lists of bytes cut into parts and blocks whose lengths are known, and numbers written least byte first.
-use Rattle.std.proofs.Common.{◌≡◌, ℕ, ◌/◌, ◌%◌, ◌^◌, ◌<◌, List, [], ◌∷◌, ◌++◌, length, sym, refl, ap, ◌∙◌, subst, ap₂, subst₂, arith, length-append}
-use mathlib.Core.List.{head-eq_of_cons-eq, tail-eq_of_cons-eq}
+use Rattle.std.proofs.Common.{◌≡◌, ℕ, ◌/◌, ◌%◌, ◌^◌, ◌<◌, List, [], ◌∷◌, ◌++◌, length, take, drop, sym, refl, ap, ◌∙◌, subst, ap₂, subst₂, arith, length-append}
+use mathlib.Core.List.{head-eq_of_cons-eq as same_head, tail-eq_of_cons-eq as same_tail}
+use Rattle.std.proofs.lemmas.List.{take_at, drop_at}
 use Rattle.std.specs.List.{flat_map}
 use Rattle.reader.specs.Replies.{least_first}
 
-pub same_head : {A : Type 0} {x y : A} {xs ys : List A} → x ∷ xs ≡ y ∷ ys → x ≡ y
-same_head e = head-eq_of_cons-eq e
-
-pub same_tail : {A : Type 0} {x y : A} {xs ys : List A} → x ∷ xs ≡ y ∷ ys → xs ≡ ys
-same_tail e = tail-eq_of_cons-eq e
-
-pub not_empty : {A B : Type 0} (x : A) (xs : List A) → [] ≡ x ∷ xs → B
-not_empty x xs e = let l = ap length e in absurd (omega arith)
-
 -- equal lists whose first parts are as long have equal first parts, and equal rests
 pub same_parts : {A : Type 0} (xs ys us vs : List A) → length xs ≡ length ys → xs ++ us ≡ ys ++ vs → (xs ≡ ys) × (us ≡ vs)
-same_parts [] [] us vs l e = (refl, e)
-same_parts [] (y ∷ ys) us vs l e = absurd (omega arith)
-same_parts (x ∷ xs) [] us vs l e = absurd (omega arith)
-same_parts {A} (x ∷ xs) (y ∷ ys) us vs l e =
-    let rest = same_parts xs ys us vs (omega arith) (same_tail e) in
-    (ap₂ (λ (z : A) (zs : List A). z ∷ zs) (same_head e) rest.0, rest.1)
+same_parts xs ys us vs l e = (
+  sym (take_at xs us (length ys) l) ∙ ap (take (length ys)) e ∙ take_at ys vs (length ys) refl,
+  sym (drop_at xs us (length ys) l) ∙ ap (drop (length ys)) e ∙ drop_at ys vs (length ys) refl,
+)
 
 -- blocks of one length, each of which tells what it is a block of: joined, they tell the list
 module _ {X : Type 0} (block : X → List ℕ) (n : ℕ) (long : (x : X) → length (block x) ≡ n) (some : 0 < n) (tells : (x y : X) → block x ≡ block y → x ≡ y) where
@@ -46,11 +36,7 @@ same_four n m h k e =
     (gone n h ∙ sym (gone m k)))))
   where
     gone : (x : ℕ) → x < 2 ^ 32 → x / 256 / 256 / 256 / 256 ≡ 0
-    gone x l =
-        let a : x / 256 < 2 ^ 24 = omega arith in
-        let b : x / 256 / 256 < 2 ^ 16 = omega arith in
-        let c : x / 256 / 256 / 256 < 2 ^ 8 = omega arith in
-        omega arith
+    gone x l = omega arith
 
 -- A type whose values are of kinds, and made of parts: what holds of any two made of parts of one kind holds of any two of one kind.
 -- A value is made anew from its parts up to what `normal` evens out.

@@ -21,7 +21,8 @@ use Rattle.reader.specs.declared.kind.Kind.{Kind}
 use Rattle.reader.specs.declared.kind.Kind.TheVariants as kind
 use Rattle.reader.specs.Records.{kind_byte, body_length, kind_of, body_of, Lends64}
 use Rattle.reader.specs.Replies.{least_first, fault_reply, ruling_row, upward_row, reply_of, as_told, Fits, ReplyDetermines}
-use Rattle.reader.proofs.Blocks.{same_head, same_tail, same_parts, same_joined, same_four, by_kind}
+use mathlib.Core.List.{head-eq_of_cons-eq as same_head, tail-eq_of_cons-eq as same_tail}
+use Rattle.reader.proofs.Blocks.{same_parts, same_joined, same_four, by_kind}
 
 -- a kind is told by its byte
 pub of_byte : ℕ → Kind
@@ -312,7 +313,7 @@ reply_as_told o (denied f) = refl
 
 fits_as_told : (t : Told) → Fits t → Fits (as_told t)
 fits_as_told done h = h
-fits_as_told (verdict v) h = λ e. let z : ◌≡◌ {A = ℕ} 0 1 = cc in omega arith
+fits_as_told (verdict v) h = λ e. cc
 fits_as_told (chapter_verdict w) h = h
 fits_as_told (reading sure possible) h = h
 fits_as_told (listing rows effort) h = h

@@ -1,10 +1,9 @@
--- Lemmas on lists of bytes and blocks, on records and replies as encodings, on buffers and places, on streams and their law.
+-- Lemmas on lists of bytes and blocks, on records and replies as encodings, on what stands at a place, on calls carried out, on streams and their law.
 pub mod Blocks
 pub mod Encodings
 pub mod Readback
 pub mod Reading
 pub mod StreamLaws
-mod Buffers
 mod Fronts
 mod Outcomes
 mod Streaming

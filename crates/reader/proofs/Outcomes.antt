@@ -1,36 +1,33 @@
--- A call carried out: its answer, and the reply that was written for it.
-use Rattle.std.proofs.Common.{◌≡◌, ℕ, List, [], ◌∷◌, length, Some, None, Ok, Err, Option, Result, unwrap_or, sym, refl, ap, subst}
+-- A call carried out: what it told, and the reply to it.
+use Rattle.std.proofs.Common.{◌≡◌, ℕ, ◌/◌, ◌%◌, List, [], ◌∷◌, ◌++◌, Ok, Err, Result, sym, ap, ap₂, ◌∙◌, subst, arith}
+use Rattle.std.specs.Int.{to_le_bytes, w32}
+use Rattle.std.specs.Result.{IsErrAnd}
 use Rattle.answers.specs.declared.fault.Fault.{Fault}
-use Rattle.answers.specs.Verdicts.{or_255}
 use Rattle.books.specs.declared.book.Book.{Ghosts as Sort}
-use Rattle.books.specs.Promise.{Outcome}
 use Rattle.marker.specs.declared.marker.Marker.{Marker}
 use Rattle.runs.specs.declared.call.Call.{Call}
 use Rattle.runs.specs.Step.{call_does}
-use Rattle.runs.specs.Told.{Told, denied, outcome_told}
-use Rattle.reader.specs.Replies.{Wrote, reply_of}
-use Rattle.reader.specs.Writing.{WroteOutcome, Carried}
-use Rattle.reader.proofs.Buffers.{Written}
+use Rattle.runs.specs.Told.{Told, denied}
+use Rattle.reader.specs.Carrying.{RepliesAs, Carried}
+use Rattle.reader.specs.Replies.{least_first}
 
--- a change that was accepted is replied to with one byte
-pub done_written : (outcome : Outcome) (n : ℕ) (found left : List ℕ) → outcome ≡ Ok tt → Written (129 ∷ []) found left n → WroteOutcome outcome found (Ok n) left
-done_written outcome n found left (is) w =
-    (is, λ o. subst (λ (r : Outcome). Wrote (reply_of o (outcome_told r)) found left × (n ≡ length (reply_of o (outcome_told r)))) (sym is) (w.there, w.count))
+-- a denial is passed on
+pub passed_on : (r : Result (List ℕ) Fault) (why : Fault) → IsErrAnd r (λ f. f ≡ why) → RepliesAs (denied why) r
+passed_on (Ok reply) why e = absurd e
+passed_on (Err f) why e = sym (ap denied e)
 
--- a change, by its outcome
-pub outcome_carried : {B : Type 0} (S : Sort B) (call c : Call) (s s' : Marker B) (outcome : Outcome) (found : List ℕ) (r : Result ℕ Fault) (left : List ℕ) →
-    call ≡ c → ((t : Told) → t ≡ outcome_told outcome → call_does S c s t s') → WroteOutcome outcome found r left → Carried S call s found r left s'
-outcome_carried S call c s s' outcome found (Ok n) left is does (_, w) =
-    subst (λ (x : Call). Carried S x s found (Ok n) left s') (sym is) (outcome_told outcome, does (outcome_told outcome) refl, w)
-outcome_carried S call c s s' outcome found (Err f) left is does (why, same) =
-    subst (λ (x : Call). Carried S x s found (Err f) left s') (sym is) (does (denied f) (sym (ap outcome_told why)), same)
+-- a call that is known by its kind
+pub carried : {B : Type 0} (S : Sort B) (call c : Call) (s s' : Marker B) (t : Told) (r : Result (List ℕ) Fault) →
+    call ≡ c → call_does S c s t s' → RepliesAs t r → Carried S call s r s'
+carried S call c s s' t r is does replies = (t, subst (λ (x : Call). call_does S x s t s') (sym is) does, replies)
 
--- a question that was denied: the fault is passed on
-pub denial_passed : {B : Type 0} (S : Sort B) (c : Call) (s : Marker B) (found : List ℕ) (r : Result ℕ Fault) (f why : Fault) → r ≡ Err f → f ≡ why → call_does S c s (denied why) s → Carried S c s found r found s
-denial_passed S c s found r f why is same does =
-    subst (λ (x : Result ℕ Fault). Carried S c s found x found s) (sym is) (subst (λ (x : Fault). call_does S c s (denied x) s) (sym same) does, refl)
+-- bytes put behind others, where both are known
+pub behind : {r xs ys us vs : List ℕ} → r ≡ xs ++ ys → xs ≡ us → ys ≡ vs → r ≡ us ++ vs
+behind is e f = is ∙ ap₂ (λ (a b : List ℕ). a ++ b) e f
 
--- a place of a fault, as it is told
-pub place_told : (place : Option ℕ) → unwrap_or place 255 ≡ or_255 place
-place_told None = refl
-place_told (Some a) = refl
+-- std's four bytes of a number
+pub four_bytes : (n : ℕ) → to_le_bytes w32 n ≡ least_first 4 n
+four_bytes n =
+    let third : n / 65536 ≡ n / 256 / 256 = omega arith in
+    let fourth : n / 16777216 ≡ n / 256 / 256 / 256 = omega arith in
+    ap₂ (λ (c d : ℕ). n % 256 ∷ n / 256 % 256 ∷ c % 256 ∷ d % 256 ∷ []) third fourth

@@ -1,5 +1,5 @@
 -- Every input of bytes reads as some calls, with some ending.
-use Rattle.std.proofs.Common.{◌≡◌, ℕ, zero, suc, ◌+◌, ◌<◌, ◌≤◌, ◌⊎◌, List, [], ◌∷◌, ◌++◌, length, get_or, take, drop, None, sym, refl, ap, ◌∙◌, subst, ap₂, inl, inr, append_assoc, arith, length-append, length-drop, take-append-drop, length-take, get_or-drop, get_or-take, get_or-append-add, take-add}
+use Rattle.std.proofs.Common.{◌≡◌, ℕ, zero, suc, ◌+◌, ◌<◌, ◌≤◌, ◌⊎◌, List, [], ◌∷◌, ◌++◌, length, get_or, take, drop, Some, None, Ok, Err, sym, refl, ap, ◌∙◌, subst, ap₂, inl, inr, append_assoc, arith, length-append, length-drop, take-append-drop, length-take, get_or-drop, get_or-take, get_or-append-add, take-add}
 use Rattle.std.specs.List.{ContainsAt}
 use Rattle.std.proofs.lemmas.List.{get_or_past}
 use Rattle.std.proofs.lemmas.Bool.{cases_lt, cases_eq}
@@ -8,9 +8,8 @@ use Rattle.runs.specs.declared.call.Call.{Call}
 use Rattle.runs.specs.declared.call.Call.TheVariants as call
 use Rattle.reader.specs.declared.kind.Kind.{Kind}
 use Rattle.reader.specs.declared.kind.Kind.TheVariants as kind
-use Rattle.reader.specs.declared.front.Front.{Front}
-use Rattle.reader.specs.declared.front.Front.TheVariants as front
-use Rattle.reader.specs.Records.{kind_byte, body_length, kind_of, body_of, OfByte, record_of, records_of, Lends64, AtFront, Ends, ReadsAs, ReadsSomeWay}
+use Rattle.reader.specs.declared.unreadable.Unreadable.TheVariants as unreadable
+use Rattle.reader.specs.Records.{Front, kind_byte, body_length, kind_of, body_of, OfByte, record_of, records_of, Lends64, AtFront, Ends, ReadsAs, ReadsSomeWay}
 use Rattle.reader.proofs.Encodings.{of_byte, of_kind_byte}
 
 abbrev Bytes : List ℕ → Type 0
@@ -33,7 +32,7 @@ ruling_from xs long h = (record { bytes = take 16 xs; long = omega (arith, lengt
         ]
 
 -- the kind of a byte, if there is one
-some_kind : (b : ℕ) → ((k : Kind) × (kind_byte k ≡ b)) ⊎ OfByte b None
+some_kind : (b : ℕ) → ((k : Kind) × (kind_byte k ≡ b)) ⊎ OfByte b (Err unreadable.Unknown)
 some_kind b =
     elim (cases_eq (kind_byte (of_byte b)) b) [
       | inl e ↦ inl (of_byte b, e)
@@ -65,19 +64,19 @@ call_from kind.Audit xs l h = (call.Audit 64, refl, refl, refl)
 
 -- something stands at the front
 some_front : (xs : List ℕ) → Bytes xs → (f : Front) × AtFront xs f
-some_front [] h = (front.End, refl)
+some_front [] h = (Ok None, refl)
 some_front (b ∷ xs) h =
     elim (some_kind b) [
       | inl (k, e) ↦ elim (cases_lt (length xs) (body_length k)) [
-        | inl short ↦ (front.Cut, (k, xs, ap (λ (n : ℕ). n ∷ xs) (sym e), short))
+        | inl short ↦ (Err unreadable.Cut, (k, xs, ap (λ (n : ℕ). n ∷ xs) (sym e), short))
         | inr long ↦ whole k e (call_from k xs long (λ i. h (suc i)))
       ]
-      | inr none ↦ (front.Unknown, (b, xs, refl, none))
+      | inr none ↦ (Err unreadable.Unknown, (b, xs, refl, none))
     ]
   where
     whole : (k : Kind) → kind_byte k ≡ b → CallFrom k xs → (f : Front) × AtFront (b ∷ xs) f
     whole k e (c, lends, of_kind, body) = (
-      front.Record c (length (record_of c)),
+      Ok (Some (record { call = c; length = length (record_of c) })),
       (
         lends,
         refl,
@@ -113,17 +112,16 @@ one_more xs rest c l e (cs, f, r) = (
     lends d (suc i, within, at) = r.lends d (i, omega arith, at)
 
 reads : (n : ℕ) (xs : List ℕ) → length xs ≤ n → Bytes xs → ReadsSomehow xs
-reads zero [] l h = nothing_read [] front.End refl tt
+reads zero [] l h = nothing_read [] (Ok None) refl tt
 reads zero (x ∷ xs) l h = absurd (omega arith)
 reads (suc n) xs l h = go (some_front xs h) (reads n)
   where
     go : (f : Front) × AtFront xs f → ((ys : List ℕ) → length ys ≤ n → Bytes ys → ReadsSomehow ys) → ReadsSomehow xs
-    go (front.End, a) again = nothing_read xs front.End a tt
-    go (front.Record c m, (lends, _, (rest, e))) again =
-        one_more xs rest c lends e
-        (again rest (omega (arith, ap length e, length-append (body_of c) rest)) (bytes_after (record_of c) rest (subst Bytes e h)))
-    go (front.Unknown, a) again = nothing_read xs front.Unknown a tt
-    go (front.Cut, a) again = nothing_read xs front.Cut a tt
+    go (Ok None, a) again = nothing_read xs (Ok None) a tt
+    go (Ok (Some r), (lends, _, (rest, e))) again =
+        one_more xs rest r.call lends e
+        (again rest (omega (arith, ap length e, length-append (body_of r.call) rest)) (bytes_after (record_of r.call) rest (subst Bytes e h)))
+    go (Err why, a) again = nothing_read xs (Err why) a tt
 
 pub reads_some_way : ReadsSomeWay
 reads_some_way input h = reads (length input) input (omega arith) h

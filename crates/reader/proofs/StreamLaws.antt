@@ -21,7 +21,7 @@ use Rattle.runs.proofs.Laws.{marker_law}
 use Rattle.reader.specs.Replies.{least_first, fault_reply, ruling_row, reply_of}
 use Rattle.reader.specs.Streams.{Stream, offset}
 use Rattle.reader.specs.StreamLaw.{InEither, Begins, without_effort, Denies, RepliesStable, VerdictsAgree, StreamLaw}
-use Rattle.reader.proofs.Blocks.{same_tail}
+use mathlib.Core.List.{tail-eq_of_cons-eq as same_tail}
 use Rattle.reader.proofs.Encodings.{denial_told, stable_number, same_ruling_rows, same_reading_reply}
 
 through : {A B C : Type 0} → A ↔ B → B ↔ C → A ↔ C

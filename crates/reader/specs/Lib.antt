@@ -1,7 +1,8 @@
 -- Records and replies: their formats, one turn of the reader, whole streams, and the law of two streams.
 pub mod Records
 pub mod Replies
-pub mod Writing
+pub mod Unreadable
+pub mod Carrying
 pub mod Turns
 pub mod Streams
 pub mod StreamLaw

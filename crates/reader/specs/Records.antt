@@ -1,12 +1,13 @@
 -- The format of records: a kind byte, then a body.
-use Rattle.std.specs.Prelude.{◌≡◌, ℕ, ◌<◌, List, [], ◌∷◌, ◌++◌, length, Some, None, Option, ◌≢◌, slice_index}
+use Rattle.std.specs.Prelude.{◌≡◌, ℕ, ◌<◌, List, [], ◌∷◌, ◌++◌, length, Some, None, Ok, Err, Option, Result, ◌≢◌, slice_index}
 use Rattle.std.specs.List.{ContainsAt, flat_map}
 use Rattle.runs.specs.declared.call.Call.{Call}
 use Rattle.runs.specs.declared.call.Call.TheVariants as call
 use Rattle.reader.specs.declared.kind.Kind.{Kind}
 use Rattle.reader.specs.declared.kind.Kind.TheVariants as kind
-use Rattle.reader.specs.declared.front.Front.{Front}
-use Rattle.reader.specs.declared.front.Front.TheVariants as front
+use Rattle.reader.specs.declared.front.Record.{Record}
+use Rattle.reader.specs.declared.unreadable.Unreadable.{Unreadable}
+use Rattle.reader.specs.declared.unreadable.Unreadable.TheVariants as unreadable
 
 -- the table of kinds: the kind byte, and how long the body is
 abbrev pub kind_byte : Kind → ℕ
@@ -31,10 +32,11 @@ body_length kind.Read = 0
 body_length kind.List = 0
 body_length kind.Audit = 0
 
--- the kind that a byte stands for, if any
-abbrev pub OfByte : ℕ → Option Kind → Type 0
-OfByte b (Some k) = kind_byte k ≡ b
-OfByte b None = (k : Kind) → kind_byte k ≢ b
+-- the kind that a byte stands for; a byte that stands for none is unknown
+abbrev pub OfByte : ℕ → Result Kind Unreadable → Type 0
+OfByte b (Ok k) = kind_byte k ≡ b
+OfByte b (Err unreadable.Unknown) = (k : Kind) → kind_byte k ≢ b
+OfByte b (Err unreadable.Cut) = ⊥
 
 -- The record of a call: a point, size or chapter is one byte, a ruling its sixteen.
 abbrev pub kind_of : Call → Kind
@@ -74,13 +76,18 @@ Lends64 call.Read = Unit {0}
 Lends64 (call.List n) = n ≡ 64
 Lends64 (call.Audit n) = n ≡ 64
 
+-- what stands at a place: the record of a call; nothing; or what cannot be read
+abbrev pub Front : Type 0
+Front = Result (Option Record) Unreadable
+
 -- What stands at the front of some bytes: nothing; the record of a call, of some length; a kind byte that is none in the table;
 -- or a kind byte with less behind it than the body takes.
 abbrev pub AtFront : List ℕ → Front → Type 0
-AtFront xs front.End = xs ≡ []
-AtFront xs (front.Record c n) = Lends64 c × (n ≡ length (record_of c)) × ((rest : List ℕ) × (xs ≡ record_of c ++ rest))
-AtFront xs front.Unknown = (b : ℕ) × (rest : List ℕ) × (xs ≡ b ∷ rest) × OfByte b None
-AtFront xs front.Cut = (k : Kind) × (rest : List ℕ) × (xs ≡ kind_byte k ∷ rest) × (length rest < body_length k)
+AtFront xs (Ok None) = xs ≡ []
+AtFront xs (Ok (Some r)) =
+    Lends64 r.call × (r.length ≡ length (record_of r.call)) × ((rest : List ℕ) × (xs ≡ record_of r.call ++ rest))
+AtFront xs (Err unreadable.Unknown) = (b : ℕ) × (rest : List ℕ) × (xs ≡ b ∷ rest) × OfByte b (Err unreadable.Unknown)
+AtFront xs (Err unreadable.Cut) = (k : Kind) × (rest : List ℕ) × (xs ≡ kind_byte k ∷ rest) × (length rest < body_length k)
 
 -- the records of some calls, one behind the other
 abbrev pub records_of : List Call → List ℕ
@@ -88,10 +95,9 @@ records_of cs = flat_map record_of cs
 
 -- how an input ends: with its last record, or at one that is unknown or cut
 abbrev pub Ends : Front → Type 0
-Ends front.End = Unit {0}
-Ends (front.Record c n) = ⊥
-Ends front.Unknown = Unit {0}
-Ends front.Cut = Unit {0}
+Ends (Ok None) = Unit {0}
+Ends (Ok (Some r)) = ⊥
+Ends (Err why) = Unit {0}
 
 -- the input reads as these calls, and so ends
 pub record ReadsAs (input : List ℕ) (calls : List Call) (ending : Front) : Type 0 where
@@ -113,4 +119,4 @@ ReadOneWay = (input : List ℕ) (cs ds : List Call) (e f : Front) → ReadsAs in
 abbrev pub RecordsReadBack : Type 0
 RecordsReadBack =
     (cs : List Call) → ((c : Call) → ContainsAt cs c → Lends64 c) →
-    ReadsAs (records_of cs) cs front.End × ((ds : List Call) (e : Front) → ReadsAs (records_of cs) ds e → (ds ≡ cs) × (e ≡ front.End))
+    ReadsAs (records_of cs) cs (Ok None) × ((ds : List Call) (e : Front) → ReadsAs (records_of cs) ds e → (ds ≡ cs) × (e ≡ Ok None))

@@ -6,7 +6,20 @@ use Rattle.answers.specs.declared.audit.UpwardReading.{UpwardReading}
 use Rattle.answers.specs.declared.fault.Fault.{Fault}
 use Rattle.answers.specs.Faults.{number, places, layer_number}
 use Rattle.answers.specs.Verdicts.{or_255, verdict_told}
+use Rattle.reader.specs.declared.mark.Mark.{Mark}
+use Rattle.reader.specs.declared.mark.Mark.TheVariants as mark
 use Rattle.runs.specs.Told.{Told, done, verdict, chapter_verdict, reading, listing, audit, denied}
+
+-- the byte that a reply, or a row in it, begins with
+abbrev pub mark_byte : Mark → ℕ
+mark_byte mark.Done = 129
+mark_byte mark.Verdict = 130
+mark_byte mark.Reading = 131
+mark_byte mark.Listing = 132
+mark_byte mark.RulingRow = 133
+mark_byte mark.Audit = 134
+mark_byte mark.UpwardRow = 135
+mark_byte mark.Denial = 255
 
 -- a number in so many bytes, least byte first
 abbrev pub least_first : ℕ → ℕ → List ℕ
@@ -16,23 +29,23 @@ least_first (suc k) n = n % 256 ∷ least_first k (n / 256)
 -- a denial: number, layer, two places (255 where there is none), the offset of the record in 4 bytes
 abbrev pub fault_reply : ℕ → Fault → List ℕ
 fault_reply offset f =
-    255 ∷ number f.refusal ∷ layer_number f.layer ∷ or_255 (places f.refusal).0 ∷ or_255 (places f.refusal).1 ∷ least_first 4 offset
+    mark_byte mark.Denial ∷ number f.refusal ∷ layer_number f.layer ∷ or_255 (places f.refusal).0 ∷ or_255 (places f.refusal).1 ∷ least_first 4 offset
 
 -- a row of a listing, and a row of an audit
 abbrev pub ruling_row : Ruling → List ℕ
-ruling_row r = 133 ∷ r.bytes
+ruling_row r = mark_byte mark.RulingRow ∷ r.bytes
 
 abbrev pub upward_row : UpwardReading → List ℕ
-upward_row u = 135 ∷ u.drop ∷ u.reader ∷ u.read ∷ []
+upward_row u = mark_byte mark.UpwardRow ∷ u.drop ∷ u.reader ∷ u.read ∷ []
 
 -- The reply to a record at an offset, by what its call told.
 abbrev pub reply_of : ℕ → Told → List ℕ
-reply_of offset done = 129 ∷ []
-reply_of offset (verdict v) = 130 ∷ verdict_told v None
-reply_of offset (chapter_verdict w) = 130 ∷ verdict_told w.verdict w.chapter
-reply_of offset (reading sure possible) = 131 ∷ sure.bytes ++ possible.bytes
-reply_of offset (listing rows effort) = 132 ∷ least_first 2 (length rows) ++ least_first 4 effort ++ flat_map ruling_row rows
-reply_of offset (audit rows) = 134 ∷ least_first 2 (length rows) ++ flat_map upward_row rows
+reply_of offset done = mark_byte mark.Done ∷ []
+reply_of offset (verdict v) = mark_byte mark.Verdict ∷ verdict_told v None
+reply_of offset (chapter_verdict w) = mark_byte mark.Verdict ∷ verdict_told w.verdict w.chapter
+reply_of offset (reading sure possible) = mark_byte mark.Reading ∷ sure.bytes ++ possible.bytes
+reply_of offset (listing rows effort) = mark_byte mark.Listing ∷ least_first 2 (length rows) ++ least_first 4 effort ++ flat_map ruling_row rows
+reply_of offset (audit rows) = mark_byte mark.Audit ∷ least_first 2 (length rows) ++ flat_map upward_row rows
 reply_of offset (denied f) = fault_reply offset f
 
 -- the reply stands at the front of the buffer, and behind it the buffer is as found

@@ -1,18 +1,17 @@
 -- Whole streams: all records of an input, and all replies.
-use Rattle.std.specs.Prelude.{◌≡◌, ℕ, ◌+◌, ◌<◌, List, [], ◌∷◌, ◌++◌, length, take}
+use Rattle.std.specs.Prelude.{◌≡◌, ℕ, ◌+◌, ◌<◌, List, [], ◌∷◌, ◌++◌, length, take, Ok, Err}
 use Rattle.std.specs.List.{ContainsAt}
-use Rattle.answers.specs.declared.fault.Refusal.TheVariants.{InputTooLong, UnknownRecord, CutRecord}
+use Rattle.answers.specs.declared.fault.Refusal.TheVariants.{InputTooLong}
 use Rattle.books.specs.declared.book.Book.{Ghosts as Sort}
 use Rattle.marker.specs.declared.marker.Marker.{Marker}
 use Rattle.runs.specs.declared.call.Call.{Call}
 use Rattle.runs.specs.History.{History}
 use Rattle.runs.specs.Step.{marker_calls}
 use Rattle.runs.specs.Told.{Told}
-use Rattle.reader.specs.declared.front.Front.{Front}
-use Rattle.reader.specs.declared.front.Front.TheVariants as front
-use Rattle.reader.specs.Records.{Lends64, record_of, records_of, ReadsAs}
+use Rattle.reader.specs.Records.{Front, Lends64, record_of, records_of, ReadsAs}
 use Rattle.reader.specs.Replies.{fault_reply, reply_of}
 use Rattle.reader.specs.Turns.{reader_fault}
+use Rattle.reader.specs.Unreadable.{refusal_of}
 
 -- the offset of record i
 abbrev pub offset : List Call → ℕ → ℕ
@@ -26,10 +25,8 @@ replies o (c ∷ cs) (t ∷ ts) = reply_of o t ++ replies (o + length (record_of
 
 -- the reply to what ends an input, at an offset
 abbrev pub last_reply : ℕ → Front → List ℕ
-last_reply o front.End = []
-last_reply o (front.Record c n) = []
-last_reply o front.Unknown = fault_reply o (reader_fault UnknownRecord)
-last_reply o front.Cut = fault_reply o (reader_fault CutRecord)
+last_reply o (Ok r) = []
+last_reply o (Err why) = fault_reply o (reader_fault (refusal_of why))
 
 -- A stream: the input reads as calls; they have a history on the marker, from the one handed over to the one left;
 -- and the output is the replies to them, one behind the other, and to what ends the input.

@@ -1,38 +1,36 @@
 // What stands at a place of an input.
-ghost use Rattle.std.specs.Prelude.{◌≡◌, ℕ, ◌+◌, ◌≤◌, ◌∷◌, length, take, drop};
+ghost use Rattle.std.specs.Prelude.{◌≡◌, ℕ, ◌+◌, ◌<◌, ◌≤◌, ◌∷◌, length, take, drop, IfOk, IfSome};
 ghost use Rattle.reader.specs.Records.{AtFront, Lends64, kind_byte, body_length, record_of};
 
 use crate::kind::Kind;
+use crate::unreadable::Unreadable;
 use rulings::Ruling;
 use runs::Call;
 
-// The end of the input; the record of a call, and its length; a kind byte that is unknown; or a record that is cut short.
+// The record of a call, and how many bytes it takes.
 #[derive(Clone, Copy)]
-pub enum Front {
-    End,
-    Record { call: Call, length: usize },
-    Unknown,
-    Cut,
+pub struct Record {
+    pub call: Call,
+    pub length: usize,
 }
 
-// What stands at a place of the input. A listing and an audit lend 64 rows.
-pub fn front_of(input: &[u8], place: usize) -> Front
-    ensures { AtFront (drop place input.now) result }
+// The record that stands at a place of the input; none at its end. A listing and an audit lend 64 rows.
+pub fn front_of(input: &[u8], place: usize) -> Result<Option<Record>, Unreadable>
+    ensures stands { AtFront (drop place input.now) result }
+    ensures within { IfOk result (λ found. IfSome found (λ it. (0 < it.length) × (place + it.length ≤ length input.now))) }
 {
     if place >= input.len() {
-        return Front::End;
+        return Ok(None);
     }
-    let Some(kind) = Kind::of_byte(input[place]) else {
-        return Front::Unknown;
-    };
+    let kind = Kind::try_from(input[place])?;
     let body = &input[place + 1..];
     if body.len() < kind.body_length() {
-        return Front::Cut;
+        return Err(Unreadable::Cut);
     }
-    Front::Record {
+    Ok(Some(Record {
         call: call_of(kind, body),
         length: kind.body_length() + 1,
-    }
+    }))
 }
 
 // The call of a record with this kind and body.
@@ -70,7 +68,6 @@ fn ruling_at(body: &[u8], place: usize) -> Ruling
     requires { place + 16 ≤ length body.now }
     ensures { result.bytes ≡ take 16 (drop place body.now) }
 {
-    let mut bytes = [0; 16];
-    bytes.copy_from_slice(&body[place..place + 16]);
-    Ruling::from_bytes(bytes)
+    let bytes = body[place..].first_chunk().unwrap();
+    Ruling::from(*bytes)
 }

@@ -2,6 +2,8 @@
 ghost use Rattle.std.specs.Prelude.{◌≡◌};
 ghost use Rattle.reader.specs.Records.{OfByte, body_length};
 
+use crate::unreadable::Unreadable;
+
 #[derive(Clone, Copy)]
 pub(crate) enum Kind {
     Open,
@@ -15,38 +17,38 @@ pub(crate) enum Kind {
     Audit,
 }
 
-impl Kind {
-    // The kind that a byte stands for.
-    pub(crate) fn of_byte(byte: u8) -> Option<Kind>
-        ensures { OfByte byte result }
-    {
+// The kind that a byte stands for.
+impl TryFrom<u8> for Kind {
+    type Error = Unreadable;
+
+    ghost try_from_gives = { OfByte };
+
+    fn try_from(byte: u8) -> Result<Kind, Unreadable> {
         match byte {
-            1 => Some(Kind::Open),
-            2 => Some(Kind::Enter),
-            3 => Some(Kind::Withdraw),
-            4 => Some(Kind::Place),
-            5 => Some(Kind::Judge),
-            6 => Some(Kind::JudgeByChapter),
-            7 => Some(Kind::Read),
-            8 => Some(Kind::List),
-            9 => Some(Kind::Audit),
-            _ => None,
+            1 => Ok(Kind::Open),
+            2 => Ok(Kind::Enter),
+            3 => Ok(Kind::Withdraw),
+            4 => Ok(Kind::Place),
+            5 => Ok(Kind::Judge),
+            6 => Ok(Kind::JudgeByChapter),
+            7 => Ok(Kind::Read),
+            8 => Ok(Kind::List),
+            9 => Ok(Kind::Audit),
+            _ => Err(Unreadable::Unknown),
         }
     }
+}
 
+impl Kind {
     pub(crate) fn body_length(self) -> usize
         ensures { result ≡ body_length self }
     {
         match self {
-            Kind::Open => 1,
-            Kind::Enter => 33,
-            Kind::Withdraw => 1,
+            Kind::Read | Kind::List | Kind::Audit => 0,
+            Kind::Open | Kind::Withdraw => 1,
             Kind::Place => 2,
-            Kind::Judge => 16,
-            Kind::JudgeByChapter => 16,
-            Kind::Read => 0,
-            Kind::List => 0,
-            Kind::Audit => 0,
+            Kind::Judge | Kind::JudgeByChapter => 16,
+            Kind::Enter => 33,
         }
     }
 }

@@ -1,17 +1,20 @@
 // Records in, replies out: the entry reader.
 #![tactic(auto)]
 
-mod bytes;
 mod front;
 mod kind;
 mod laws;
+mod limits;
+mod mark;
 mod reader;
 mod replies;
+mod reply;
 mod serving;
-mod turn;
+mod unreadable;
 
-pub use front::{Front, front_of};
+pub use front::{Record, front_of};
 pub use laws::{records_read_back, replies_determine_answers, streams_keep_the_law};
+pub use limits::{LONGEST_INPUT, LONGEST_REPLY};
 pub use reader::Reader;
 pub use serving::serve;
-pub use turn::Turn;
+pub use unreadable::Unreadable;

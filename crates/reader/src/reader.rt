@@ -1,11 +1,12 @@
 // The reader: one record a turn.
-ghost use Rattle.std.specs.Prelude.{◌≡◌, ◌≤◌, length};
-ghost use Rattle.reader.specs.Replies.{Wrote, fault_reply};
-ghost use Rattle.reader.specs.Turns.{Turned, reader_fault};
+ghost use Rattle.std.specs.Prelude.{◌≡◌, ◌≤◌, ◌<◌, length, MatchResult};
+ghost use Rattle.answers.specs.declared.fault.Refusal.TheVariants.{InputTooLong};
+ghost use Rattle.reader.specs.Turns.{Turned, TakesRecord, reader_fault};
 
-use crate::front::{Front, front_of};
-use crate::replies::{carry_out, deny};
-use crate::turn::Turn;
+use crate::front::{Record, front_of};
+use crate::limits::{LONGEST_INPUT, LONGEST_REPLY};
+use crate::replies::{carry_out, denial};
+use crate::reply::Reply;
 use answers::{Fault, Layer, Refusal};
 use books::Book;
 use marker::Marker;
@@ -25,44 +26,54 @@ impl<'a> Reader<'a> {
         Reader { input, place: 0 }
     }
 
-    // Does one record on the marker, and writes its reply to the front of the buffer.
-    pub fn turn<B: Book>(&mut self, marker: &mut Marker<B>, reply: &mut [u8]) -> Result<Turn, Fault>
+    // Does one record on the marker, writes its reply to the front of the buffer, and answers the reply's length;
+    // none where no record is left.
+    pub fn turn<B: Book>(
+        &mut self,
+        marker: &mut Marker<B>,
+        reply: &mut [u8],
+    ) -> Result<Option<usize>, Fault>
         ensures turned { Turned B.Book self.old.input.now self.old.place reply.old marker.old result self.new.place reply.new marker.new }
         ensures input { self.new.input.now ≡ self.old.input.now }
     {
-        if self.input.len() > 32_768 {
-            return Err(Fault::new(Layer::Reader, Refusal::InputTooLong));
-        }
-        if reply.len() < 1_095 {
+        self.check_length()?;
+        if reply.len() < LONGEST_REPLY {
             return Err(Fault::new(Layer::Reader, Refusal::ReplyTooShort));
         }
-        let offset = self.place;
-        let length = match front_of(self.input, offset) {
-            Front::End => return Ok(Turn::Finished),
-            Front::Unknown => self.stop(Refusal::UnknownRecord, reply),
-            Front::Cut => self.stop(Refusal::CutRecord, reply),
-            Front::Record { call, length } => {
-                self.place += length;
-                match carry_out(marker, call, reply) {
-                    Ok(length) => length,
-                    Err(fault) => deny(fault, offset, reply),
-                }
-            }
+        let Some(told) = self.next_reply(marker) else {
+            return Ok(None);
         };
-        Ok(Turn::Replied { length })
+        Ok(Some(told.write_to(reply)))
     }
 
-    // Puts the reading at its end, and writes a denial of the record where it was.
-    fn stop(&mut self, refusal: Refusal, reply: &mut [u8]) -> usize
-        requires room { 1095 ≤ length reply.old }
-        requires small { self.old.place ≤ 32768 }
-        ensures count { result ≡ length (fault_reply self.old.place (reader_fault refusal)) }
-        ensures wrote { Wrote (fault_reply self.old.place (reader_fault refusal)) reply.old reply.new }
-        ensures place { self.new.place ≡ length self.old.input.now }
+    // Denies an input that is too long.
+    pub(crate) fn check_length(&self) -> Result<(), Fault>
+        ensures { MatchResult result (λ _. length self.now.input.now ≤ LONGEST_INPUT) (λ f. (f ≡ reader_fault InputTooLong) × (LONGEST_INPUT < length self.now.input.now)) }
+    {
+        if self.input.len() > LONGEST_INPUT {
+            return Err(Fault::new(Layer::Reader, Refusal::InputTooLong));
+        }
+        Ok(())
+    }
+
+    // Does one record on the marker and answers its reply; none where no record is left.
+    // A record that cannot be read puts the reading at its end.
+    pub(crate) fn next_reply<B: Book>(&mut self, marker: &mut Marker<B>) -> Option<Reply>
+        requires { length self.old.input.now ≤ LONGEST_INPUT }
+        ensures takes { TakesRecord B.Book self.old.input.now self.old.place marker.old result self.new.place marker.new }
         ensures input { self.new.input.now ≡ self.old.input.now }
     {
         let offset = self.place;
-        self.place = self.input.len();
-        deny(Fault::new(Layer::Reader, refusal), offset, reply)
+        match front_of(self.input, offset) {
+            Ok(None) => None,
+            Ok(Some(Record { call, length })) => {
+                self.place += length;
+                Some(carry_out(marker, call).unwrap_or_else(|fault| denial(fault, offset)))
+            }
+            Err(why) => {
+                self.place = self.input.len();
+                Some(denial(Fault::new(Layer::Reader, why.into()), offset))
+            }
+        }
     }
 }

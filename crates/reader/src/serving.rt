@@ -4,8 +4,7 @@ ghost use Rattle.reader.specs.Streams.{ServedSoFar};
 ghost use Rattle.reader.specs.StreamLaw.{Served};
 
 use crate::reader::Reader;
-use crate::replies::deny;
-use crate::turn::Turn;
+use crate::replies::denial;
 use books::Book;
 use marker::Marker;
 use std::alloc::{AllocError, Global};
@@ -21,20 +20,12 @@ pub fn serve<B: Book>(
 {
     let mut replies = Vec::new(heap);
     let mut reader = Reader::new(input);
-    let mut reply = [0u8; 1_095];
-    loop {
-        let turn = match reader.turn(marker, &mut reply) {
-            Ok(turn) => turn,
-            // the buffer is long enough, so the input is too long
-            Err(fault) => {
-                let length = deny(fault, 0, &mut reply);
-                replies.extend_from_slice(&reply[..length])?;
-                return Ok(replies);
-            }
-        };
-        match turn {
-            Turn::Replied { length } => replies.extend_from_slice(&reply[..length])?,
-            Turn::Finished => return Ok(replies),
-        }
+    if let Err(fault) = reader.check_length() {
+        replies.extend_from_slice(denial(fault, 0).as_slice())?;
+        return Ok(replies);
     }
+    while let Some(reply) = reader.next_reply(marker) {
+        replies.extend_from_slice(reply.as_slice())?;
+    }
+    Ok(replies)
 }

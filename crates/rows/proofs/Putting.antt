@@ -1,7 +1,7 @@
 -- A row put among rows: length, elements and order, for any strict total order.
-use Rattle.std.proofs.Common.{◌≡◌, ℕ, zero, suc, ◌+◌, ◌-◌, ◌≤◌, true, ◌⊎◌, List, [], ◌∷◌, ◌++◌, length, take, drop, sym, refl, ap, ◌∙◌, subst, inl, inr, arith, length-append}
+use Rattle.std.proofs.Common.{◌≡◌, ℕ, zero, suc, ◌+◌, ◌-◌, ◌≤◌, Some, ◌⊎◌, List, [], ◌∷◌, ◌++◌, length, take, drop, sym, refl, ap, ◌∙◌, subst, inl, inr, arith, length-append}
 use Rattle.std.specs.List.{ContainsAt, AllByRecursion}
-use Rattle.std.proofs.ByRecursion.{All-weaker, has_append_left, has_append_right}
+use Rattle.std.proofs.ByRecursion.{All-weaker, has_append_left, has_append_right, has_append_cases}
 use Rattle.std.proofs.lemmas.List.{same_from_push, length-take-le, take_at, drop_at, drop-drop}
 use Rattle.rulings.specs.Order.{StrictTotal}
 use Rattle.rows.specs.Rows.{InOrder, PutIn, Inserted}
@@ -17,20 +17,10 @@ module _ {A : Type 0} where
   none_pushed : (rest : List A) (last : A) → [] ≡ rest ++ last ∷ [] → ⊥
   none_pushed rest last e = omega (arith, ap length e, length-append rest (last ∷ []))
 
-  has_cases : (xs : List A) (y x : A) → ContainsAt (y ∷ xs) x → (y ≡ x) ⊎ ContainsAt xs x
+  -- an element of a list is its first or one of the rest
+  pub has_cases : (xs : List A) (y x : A) → ContainsAt (y ∷ xs) x → (y ≡ x) ⊎ ContainsAt xs x
   has_cases xs y x (zero, h, is) = inl (is x)
   has_cases xs y x (suc k, h, is) = inr (k, omega arith, is)
-
-  has_append_cases : (xs ys : List A) (x : A) → ContainsAt (xs ++ ys) x → ContainsAt xs x ⊎ ContainsAt ys x
-  has_append_cases [] ys x h = inr h
-  has_append_cases (y ∷ xs) ys x h =
-      elim (has_cases (xs ++ ys) y x h) [
-        | inl e ↦ inl (subst (λ (z : A). ContainsAt (y ∷ xs) z) e (has_first xs y))
-        | inr l ↦ elim (has_append_cases xs ys x l) [
-          | inl f ↦ inl (has_later xs y x f)
-          | inr b ↦ inr b
-        ]
-      ]
 
 module _ {A : Type 0} (before : A → A → Type 0) (row : A) (xs ys : List A) (put : PutIn before row xs ys) where
   pub put_length : length ys ≡ length xs + 1
@@ -198,7 +188,7 @@ same_later {A} k n xs ys le e =
     rw (there, ← drop-drop (n - k) k xs, ← drop-drop (n - k) k ys, e) refl
 
 -- the ordered insertion as a row put in: the first rows, and the later ones
-module _ {A : Type 0} (before : A → A → Type 0) (row : A) (xs : List A) (n : ℕ) (zs : List A) (inserted : Inserted before xs n row true zs) where
+module _ {A : Type 0} (before : A → A → Type 0) (row : A) (xs : List A) (n : ℕ) (zs : List A) (m : ℕ) (inserted : Inserted before xs n row (Some m) zs) where
   put_count : length inserted.1.0 ≡ n + 1
   put_count = put_length before row (take n xs) inserted.1.0 inserted.1.1 ∙ ap (λ (k : ℕ). k + 1) (length-take-le n xs (omega (arith, inserted.0)))
 

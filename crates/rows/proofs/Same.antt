@@ -1,16 +1,11 @@
 -- Lists with the same rows, strictly in order, are equal.
-use Rattle.std.proofs.Common.{◌≡◌, zero, suc, ◌⊎◌, List, [], ◌∷◌, sym, refl, ◌∙◌, subst, inl, inr, arith}
+use Rattle.std.proofs.Common.{◌≡◌, ◌⊎◌, List, [], ◌∷◌, sym, refl, ◌∙◌, subst, inl, inr, arith}
 use Rattle.std.specs.List.{ContainsAt, AllByRecursion}
 use Rattle.std.proofs.ByRecursion.{all-has}
 use Rattle.rulings.specs.Order.{StrictTotal}
 use Rattle.rows.specs.Rows.{SameRowsSameList}
 use Rattle.rows.proofs.Pairwise.{Pairwise, from_places}
-use Rattle.rows.proofs.Putting.{has_first, has_later}
-
--- an element of a list is its first or one of the rest
-has_cases : {A : Type 0} (x y : A) (ys : List A) → ContainsAt (y ∷ ys) x → (y ≡ x) ⊎ ContainsAt ys x
-has_cases x y ys (zero, l, at) = inl (at x)
-has_cases x y ys (suc k, l, at) = inr (k, omega arith, at)
+use Rattle.rows.proofs.Putting.{has_first, has_later, has_cases}
 
 has_none : {A : Type 0} {B : Type 0} (x : A) → ContainsAt [] x → B
 has_none x (k, l, at) = absurd (omega arith)
@@ -22,7 +17,7 @@ module _ {A : Type 0} (before : A → A → Type 0) (strict : StrictTotal before
 
   -- the first of a list comes before no element of the same rows' first
   not_before : {B : Type 0} (x y : A) (ys : List A) → AllByRecursion (before y) ys → ContainsAt (y ∷ ys) x → before x y → B
-  not_before x y ys later h p = go (has_cases x y ys h)
+  not_before x y ys later h p = go (has_cases ys y x h)
     where
       go : {B : Type 0} → (y ≡ x) ⊎ ContainsAt ys x → B
       go (inl e) = absurd (strict.irreflexive x (subst (λ (z : A). before x z) e p))
@@ -38,7 +33,7 @@ module _ {A : Type 0} (before : A → A → Type 0) (strict : StrictTotal before
 
   -- what is behind the first of both is the same
   rest : (x y : A) (xs ys : List A) → x ≡ y → AllByRecursion (before x) xs → ((r : A) → ContainsAt (x ∷ xs) r → ContainsAt (y ∷ ys) r) → (r : A) → ContainsAt xs r → ContainsAt ys r
-  rest x y xs ys e p f r h = go (has_cases r y ys (f r (has_later xs x r h)))
+  rest x y xs ys e p f r h = go (has_cases ys y r (f r (has_later xs x r h)))
     where
       go : (y ≡ r) ⊎ ContainsAt ys r → ContainsAt ys r
       go (inl q) = absurd (strict.irreflexive x (subst (λ (z : A). before x z) (sym (e ∙ q)) (all-has (before x) xs r p h)))

@@ -1,5 +1,5 @@
 -- Rows in order, and a row put among them.
-use Rattle.std.specs.Prelude.{◌≡◌, ℕ, ◌+◌, ◌<◌, ◌≤◌, Bool, true, false, ◌↔◌, List, [], ◌∷◌, ◌++◌, length, take, drop, slice_index_or}
+use Rattle.std.specs.Prelude.{◌≡◌, ℕ, ◌+◌, ◌<◌, ◌≤◌, Option, Some, None, ◌↔◌, List, [], ◌∷◌, ◌++◌, length, take, drop, slice_index_or}
 use Rattle.std.specs.List.{ContainsAt, AllByRecursion}
 
 module _ {A : Type 0} (before : A → A → Type 0) where
@@ -25,9 +25,9 @@ module _ {A : Type 0} (before : A → A → Type 0) where
     pub ahead_of : AllByRecursion (λ x. before row x) back
     pub behind : (rest : List A) (last : A) → front ≡ rest ++ last ∷ [] → before row last → ⊥
 
-  -- what the ordered insertion leaves of xs, whose first n rows were in use: the row put in, in order if they were, and the later rows as found;
-  -- false where there is no room, and then nothing is changed
-  abbrev pub Inserted : List A → ℕ → A → Bool → List A → Type 0
-  Inserted xs n row true zs =
-      (n < length xs) × ((ys : List A) × PutIn row (take n xs) ys × (zs ≡ ys ++ drop (n + 1) xs) × (InOrder (take n xs) → InOrder ys))
-  Inserted xs n row false zs = (length xs ≤ n) × (zs ≡ xs)
+  -- what the ordered insertion leaves of xs, whose first n rows were in use: the row put in, in order if they were, and the later rows as found,
+  -- with one more row in use; nothing where there is no room, and then nothing is changed
+  abbrev pub Inserted : List A → ℕ → A → Option ℕ → List A → Type 0
+  Inserted xs n row (Some m) zs =
+      (n < length xs) × ((ys : List A) × PutIn row (take n xs) ys × (zs ≡ ys ++ drop (n + 1) xs) × (InOrder (take n xs) → InOrder ys)) × (m ≡ n + 1)
+  Inserted xs n row None zs = (length xs ≤ n) × (zs ≡ xs)

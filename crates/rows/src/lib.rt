@@ -1,20 +1,20 @@
 // Rows kept in their order, in slices that the caller lends.
 #![tactic(auto)]
 
-ghost use Rattle.std.specs.Prelude.{◌≡◌, true, ◌↔◌};
-ghost use Rattle.rulings.specs.Order.{Precedes, StrictTotal};
+ghost use Rattle.std.specs.Prelude.{◌≡◌};
+ghost use Rattle.std.specs.List.{suffix_len};
+ghost use Rattle.std.specs.Ordering.{is_lt};
+ghost use Rattle.rulings.specs.Order.{Precedes, StrictTotal, IsOrderOf};
 ghost use Rattle.rows.specs.Rows.{Inserted, SameRowsSameList};
-ghost use Rattle.rulings.proofs.RowOrder.{row_order};
+ghost use Rattle.rulings.proofs.RowOrder.{row_order, by_bytes};
 
 use rulings::Ruling;
 
-// A row, with its order.
-pub trait Row: Copy {
+// A row, with its order: that of std, as a relation.
+pub trait Row: Ord + Copy {
     ghost before: { Self → Self → Type 0 };
 
-    // Whether the row comes before the other.
-    fn comes_before(self, other: Self) -> bool
-        ensures { (result ≡ true) ↔ before self other };
+    ghost ordered: { IsOrderOf Self.cmp before };
 
     ghost strict: { StrictTotal before };
 }
@@ -23,28 +23,30 @@ pub trait Row: Copy {
 impl Row for Ruling {
     ghost before = { Precedes };
 
-    ghost strict = { row_order };
+    ghost ordered = { by_bytes };
 
-    fn comes_before(self, other: Ruling) -> bool {
-        self.precedes(other)
-    }
+    ghost strict = { row_order };
 }
 
 // Puts the row into the first `count` rows, which it keeps in order; later rows stay, but for the one whose place is taken.
-// Answers false, and changes nothing, where there is no room.
-pub fn insert_in_order<R: Row>(rows: &mut [R], count: usize, row: R) -> bool
+// Answers how many rows are in use then; none, and nothing is changed, where there is no room.
+pub fn insert_in_order<R: Row>(rows: &mut [R], count: usize, row: R) -> Option<usize>
     ensures { Inserted R.Row.before rows.old count row result rows.new }
 {
     if count >= rows.len() {
-        return false;
+        return None;
     }
-    let mut place = count;
-    while place > 0 && row.comes_before(rows[place - 1]) {
-        rows[place] = rows[place - 1];
-        place -= 1;
-    }
+    let place = count - rows_behind(&rows[..count], row);
+    rows.copy_within(place..count, place + 1);
     rows[place] = row;
-    true
+    Some(count + 1)
+}
+
+// How many rows at the end the row comes before.
+fn rows_behind<R: Row>(rows: &[R], row: R) -> usize
+    ensures { result ≡ suffix_len (λ later. is_lt (R.Ord.cmp row later)) rows.now }
+{
+    rows.iter().rev().take_while(|later| row < **later).count()
 }
 
 // A theorem: the same rows, strictly in order, are the same list. So a listing is settled by what it lists.

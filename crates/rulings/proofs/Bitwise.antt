@@ -1,9 +1,12 @@
 -- Operations on bytes that work on each digit apart, lifted to rulings: what is done byte by byte is done point by point.
-use Rattle.std.proofs.Common.{◌≡◌, ℕ, ◌+◌, ◌-◌, ◌*◌, ◌/◌, ◌%◌, ◌<◌, ◌≤◌, Bool, true, false, not, ◌&&◌, ◌||◌, List, length, get_or, sym, refl, ap, ◌∙◌, ap₂, inl, inr, le_of_eq, lt_of_le_of_lt, mod-lt, arith}
+use Rattle.std.proofs.Common.{◌≡◌, ◌≢◌, ◌↔◌, min, subst, ℕ, ◌+◌, ◌-◌, ◌*◌, ◌/◌, ◌%◌, ◌<◌, ◌≤◌, Bool, true, false, not, ◌&&◌, ◌||◌, length, get_or, sym, refl, ap, ◌∙◌, ap₂, inl, inr, lt_of_le_of_lt, mod-lt, arith}
 use mathlib.Core.Bool.{xor}
 use lib.Bits.{bit_and, bit_or, bit_xor, and_le_l}
 use Rattle.std.proofs.lemmas.Nat.{or_lt, xor_lt}
-use Rattle.std.proofs.lemmas.Bool.{cases_lt}
+use Rattle.std.specs.Bool.{MatchBool}
+use Rattle.std.specs.List.{zip, AllWithin, HoldsAt}
+use Rattle.std.proofs.lemmas.Slice.Zip.{length-zip, get_or-zip}
+use Rattle.std.proofs.lemmas.Bool.{cases_lt, false≢true}
 use Rattle.rulings.specs.Rulings.{digit, byte, has}
 use Rattle.rulings.specs.declared.ruling.Ruling.{Ruling}
 use Rattle.rulings.proofs.Bytes.{byte_past, has_at}
@@ -43,7 +46,7 @@ module _ (op : ℕ → ℕ → ℕ) (f : Bool → Bool → Bool) (b : Bitwise op
   pub combined_below : (i : ℕ) → op (byte r i) (byte s i) < 256
   combined_below i = b.below (byte r i) (byte s i) (r.each i) (s.each i)
 
-  pub combined_past : (i : ℕ) → 16 ≤ i → op (byte r i) (byte s i) ≡ 0
+  combined_past : (i : ℕ) → 16 ≤ i → op (byte r i) (byte s i) ≡ 0
   combined_past i h = ap₂ op (byte_past r i h) (byte_past s i h) ∙ b.zeros
 
   -- the digits of a combined byte, by place and by point
@@ -51,13 +54,13 @@ module _ (op : ℕ → ℕ → ℕ) (f : Bool → Bool → Bool) (b : Bitwise op
   digit_combined i k h =
       b.digits (byte r i) (byte s i) k (r.each i) (s.each i) h ∙ sym (ap₂ f (has_at r i k h) (has_at s i k h))
 
-  pub point_combined : (a : ℕ) → digit (op (byte r (a / 8)) (byte s (a / 8))) (a % 8) ≡ f (has r a) (has s a)
+  point_combined : (a : ℕ) → digit (op (byte r (a / 8)) (byte s (a / 8))) (a % 8) ≡ f (has r a) (has s a)
   unfolding has
   point_combined a = b.digits (byte r (a / 8)) (byte s (a / 8)) (a % 8) (r.each (a / 8)) (s.each (a / 8)) (mod-lt a {m = 8} (omega arith))
 
 -- a test of sixteen bytes and an implication about points: each gives the other
 module _ (op : ℕ → ℕ → ℕ) (g : Bool → Bool) (b : Bitwise op (λ x y. x && g y)) (r s : Ruling) where
-  pub point_test : ((i : ℕ) → i < 16 → op (byte r i) (byte s i) ≡ 0) → (a : ℕ) → has r a ≡ true → g (has s a) ≡ false
+  point_test : ((i : ℕ) → i < 16 → op (byte r i) (byte s i) ≡ 0) → (a : ℕ) → has r a ≡ true → g (has s a) ≡ false
   point_test h a e =
       ap (λ (x : Bool). x && g (has s a)) (sym e) ∙ sym (point_combined op (λ x y. x && g y) b r s a)
       ∙ ap (λ (n : ℕ). digit n (a % 8)) (all (a / 8)) ∙ digit_zero (a % 8)
@@ -65,7 +68,7 @@ module _ (op : ℕ → ℕ → ℕ) (g : Bool → Bool) (b : Bitwise op (λ x y.
       all : (i : ℕ) → op (byte r i) (byte s i) ≡ 0
       all i = elim (cases_lt i 16) [ inl l ↦ h i l | inr l ↦ combined_past op (λ x y. x && g y) b r s i l ]
 
-  pub byte_test : ((a : ℕ) → has r a ≡ true → g (has s a) ≡ false) → (i : ℕ) → op (byte r i) (byte s i) ≡ 0
+  byte_test : ((a : ℕ) → has r a ≡ true → g (has s a) ≡ false) → (i : ℕ) → op (byte r i) (byte s i) ≡ 0
   byte_test h i =
       no_digits 8 (op (byte r i) (byte s i)) (combined_below op (λ x y. x && g y) b r s i)
       (λ k l. digit_combined op (λ x y. x && g y) b r s i k l ∙ not_both (has r (i * 8 + k)) (g (has s (i * 8 + k))) (h (i * 8 + k)))
@@ -74,26 +77,37 @@ module _ (op : ℕ → ℕ → ℕ) (g : Bool → Bool) (b : Bitwise op (λ x y.
       not_both true y n = n refl
       not_both false y n = refl
 
--- a list of bytes of which those below i are combined, and the others are as they were
-pub record Partly (op : ℕ → ℕ → ℕ) (xs ys : List ℕ) (i : ℕ) (zs : List ℕ) : Type 0 where
-  pub sixteen : length zs ≡ 16
-  pub done : (k : ℕ) → k < i → get_or zs k 0 ≡ op (get_or xs k 0) (get_or ys k 0)
-  pub rest : (k : ℕ) → i ≤ k → get_or zs k 0 ≡ get_or xs k 0
+-- the same of the sixteen pairs of bytes, tested one after the other
+module _ (op : ℕ → ℕ → ℕ) (g : Bool → Bool) (b : Bitwise op (λ x y. x && g y)) (r s : Ruling) where
+  sixteen : length (zip r.bytes s.bytes) ≡ 16
+  sixteen = length-zip r.bytes s.bytes ∙ ap₂ min r.long s.long
 
-module _ (op : ℕ → ℕ → ℕ) (f : Bool → Bool → Bool) (b : Bitwise op f) (r s : Ruling) (i : ℕ) (zs : List ℕ) (full : 16 ≤ i)
-    (p : Partly op r.bytes s.bytes i zs) where
-  whole : (k : ℕ) → get_or zs k 0 ≡ op (byte r k) (byte s k)
-  whole k =
-      elim (cases_lt k i) [
-        | inl l ↦ p.done k l
-        | inr l ↦ p.rest k l ∙ byte_past r k (omega arith) ∙ sym (combined_past op f b r s k (omega arith))
-      ]
+  pair_at : (i : ℕ) → i < 16 → get_or (zip r.bytes s.bytes) i (0, 0) ≡ (byte r i, byte s i)
+  pair_at i h = get_or-zip r.bytes s.bytes i (0, 0) (omega (arith, r.long)) (omega (arith, s.long))
 
-  pub whole_below : (k : ℕ) → get_or zs k 0 < 256
-  whole_below k = lt_of_le_of_lt (le_of_eq (whole k)) (combined_below op f b r s k)
+  pub pairs_tested : (t : Bool) →
+      MatchBool t (AllWithin (λ (p : ℕ × ℕ). op p.0 p.1 ≡ 0) (zip r.bytes s.bytes) 0 (length (zip r.bytes s.bytes)))
+      ((i : ℕ) × (i < length (zip r.bytes s.bytes)) × HoldsAt (λ (p : ℕ × ℕ). op p.0 p.1 ≢ 0) (zip r.bytes s.bytes) i) →
+      (t ≡ true) ↔ ((a : ℕ) → has r a ≡ true → g (has s a) ≡ false)
+  pairs_tested true all = (λ _. point_test op g b r s zeros, λ _. refl)
+    where
+      zeros : (i : ℕ) → i < 16 → op (byte r i) (byte s i) ≡ 0
+      zeros i h = subst (λ (p : ℕ × ℕ). op p.0 p.1 ≡ 0) (pair_at i h) (all i (0, 0) (omega arith) (omega (arith, sixteen)))
+  pairs_tested false found = (λ e. absurd (false≢true e), λ h. absurd (other (byte_test op g b r s h found.0)))
+    where
+      other : op (byte r found.0) (byte s found.0) ≢ 0
+      other = subst (λ (p : ℕ × ℕ). op p.0 p.1 ≢ 0) (pair_at found.0 (omega (arith, sixteen, found.1))) (found.2 (0, 0))
 
-  pub whole_has : (t : Ruling) → t.bytes ≡ zs → (a : ℕ) → has t a ≡ f (has r a) (has s a)
+-- a ruling whose bytes are combined place by place has its points combined
+module _ (op : ℕ → ℕ → ℕ) (f : Bool → Bool → Bool) (b : Bitwise op f) (r s t : Ruling)
+    (made : (i : ℕ) → i < 16 → byte t i ≡ op (byte r i) (byte s i)) where
+  pub combined_has : (a : ℕ) → has t a ≡ f (has r a) (has s a)
   unfolding has
-  whole_has t e a =
-      ap (λ (n : ℕ). digit n (a % 8)) (ap (λ (xs : List ℕ). get_or xs (a / 8) 0) e ∙ whole (a / 8))
-      ∙ point_combined op f b r s a
+  combined_has a = ap (λ (n : ℕ). digit n (a % 8)) (whole (a / 8)) ∙ point_combined op f b r s a
+    where
+      whole : (i : ℕ) → byte t i ≡ op (byte r i) (byte s i)
+      whole i =
+          elim (cases_lt i 16) [
+            | inl l ↦ made i l
+            | inr l ↦ byte_past t i l ∙ sym (combined_past op f b r s i l)
+          ]

@@ -1,9 +1,10 @@
 -- A ruling's bytes and its points: each gives the other, and either gives the ruling.
-use Rattle.std.proofs.Common.{◌≡◌, ℕ, ◌+◌, ◌*◌, ◌/◌, ◌%◌, ◌^◌, ◌<◌, ◌≤◌, Bool, true, false, ◌&&◌, ◌||◌, eqb, ltb, ◌≢◌, List, length, get_or, set, sym, refl, ap, ◌∙◌, ap₂, inl, inr, mod-lt, arith}
+use Rattle.std.proofs.Common.{◌≡◌, ℕ, ◌+◌, ◌*◌, ◌/◌, ◌%◌, ◌^◌, ◌<◌, ◌≤◌, Bool, false, ◌&&◌, ◌||◌, eqb, ltb, ◌≢◌, List, length, get_or, set, sym, ap, ◌∙◌, ap₂, inl, inr, mod-lt, arith}
 use mathlib.Core.HLevel.{is_prop→PathP, Π_prop}
 use native.Mathlib.Bridge.{le_prop}
 use native.Mathlib.Nat.{ℕ_set}
 use lib.Bits.{bit_and, bit_or, and_mask}
+use Rattle.std.proofs.Math.Bool.{or-false}
 use Rattle.std.proofs.lemmas.Nat.{div-mul-add, mod-mul-add, one_shl}
 use Rattle.std.proofs.lemmas.List.{get_or_past, ext_get_or, get_or-set_same, get_or-set_other}
 use Rattle.std.proofs.lemmas.Bool.{cases_eq, ne_eqb}
@@ -11,10 +12,6 @@ use Rattle.std.proofs.lemmas.Bool.Decides.{nat_tests}
 use Rattle.rulings.specs.Rulings.{digit, byte, has, PointsBelow128, SamePointsSameRuling}
 use Rattle.rulings.specs.declared.ruling.Ruling.{Ruling}
 use Rattle.rulings.proofs.Digits.{digit_zero, digit_or, digit_power, same_digits}
-
-or_false : (x : Bool) → x || false ≡ x
-or_false true = refl
-or_false false = refl
 
 pub byte_past : (r : Ruling) (i : ℕ) → 16 ≤ i → byte r i ≡ 0
 byte_past r i h = get_or_past r.bytes i 0 (omega (arith, r.long))
@@ -35,7 +32,7 @@ same_list r s e = λ i. record {
   each = is_prop→PathP (λ j. (k : ℕ) → get_or (e j) k 0 < 256) (λ j. Π_prop (λ k. le_prop)) r.each s.each i;
 }
 
-pub same_bytes : (r s : Ruling) → ((i : ℕ) → i < 16 → byte r i ≡ byte s i) → r ≡ s
+same_bytes : (r s : Ruling) → ((i : ℕ) → i < 16 → byte r i ≡ byte s i) → r ≡ s
 same_bytes r s h =
     same_list r s (ext_get_or 0 r.bytes s.bytes (r.long ∙ sym s.long) (λ i l. h i (omega (arith, r.long))))
 
@@ -47,14 +44,6 @@ same_points r s h =
 -- the mask of a point in its byte, as the code writes it
 pub mask_is : (p : ℕ) → (1 * 2 ^ bit_and p 7) % 256 ≡ 2 ^ (p % 8)
 mask_is p = ap (λ (k : ℕ). (1 * 2 ^ k) % 256) (and_mask p 3) ∙ one_shl (p % 8) 8 (mod-lt p {m = 8} (omega arith))
-
--- bytes stay bytes where one is written
-pub set_below : (xs : List ℕ) (i v : ℕ) → i < length xs → v < 256 → ((k : ℕ) → get_or xs k 0 < 256) → (k : ℕ) → get_or (set xs i v) k 0 < 256
-set_below xs i v l h each k =
-    elim (cases_eq k i) [
-      | inl e ↦ omega (arith, ap (λ (j : ℕ). get_or (set xs i v) j 0) e, get_or-set_same xs i v 0 l)
-      | inr n ↦ omega (arith, each k, get_or-set_other xs i k v 0 n)
-    ]
 
 -- a byte written anew, with one digit set, adds one point
 module _ (r t : Ruling) (p : ℕ) (small : p < 128)
@@ -80,4 +69,4 @@ module _ (r t : Ruling) (p : ℕ) (small : p < 128)
       elsewhere h =
           let other : eqb a p ≡ false = ne_eqb a p (λ e. h (ap (λ (n : ℕ). n / 8) e)) in
           ap (λ (n : ℕ). digit n (a % 8)) (byte_elsewhere (a / 8) h)
-          ∙ sym (or_false (has r a)) ∙ ap (λ (x : Bool). has r a || (x && ltb a 128)) (sym other)
+          ∙ sym (or-false (has r a)) ∙ ap (λ (x : Bool). has r a || (x && ltb a 128)) (sym other)

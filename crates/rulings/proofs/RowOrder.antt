@@ -1,66 +1,75 @@
--- The row order is strict and total.
-use Rattle.std.proofs.Common.{◌≡◌, ℕ, zero, suc, ◌<◌, ◌⊎◌, sym, ◌∙◌, inl, inr, add-one, arith, below_none, below_more}
-use Rattle.std.proofs.lemmas.Bool.{cases_lt, cases_order}
-use Rattle.rulings.specs.Order.{Precedes, StrictTotal}
-use Rattle.rulings.specs.Rulings.{byte}
+-- The row order: what comparing the bytes in turn says, and that the order is strict and total.
+use Rattle.std.proofs.Common.{◌≡◌, ℕ, zero, suc, ◌<◌, ◌↔◌, List, [], ◌∷◌, length, get_or, refl, sym, subst, ap₂, ◌∙◌, inl, inr, arith}
+use Rattle.std.specs.Cmp.{ranks}
+use Rattle.std.specs.Cmp.Lexicographic.{slice_cmp}
+use Rattle.std.specs.declared.cmp.Ordering.{Ordering}
+use Rattle.std.specs.declared.cmp.Ordering.TheVariants.{Less, Equal, Greater}
+use Rattle.std.specs.Ordering.{MatchOrdering, nat_cmp, ordering_then, on}
+use Rattle.std.proofs.lemmas.Bool.{cases_order}
+use Rattle.std.proofs.lemmas.Cmp.{on_total, nat_list_cmp_total}
+use Rattle.rulings.specs.Order.{Precedes, StrictTotal, IsOrderOf}
 use Rattle.rulings.specs.declared.ruling.Ruling.{Ruling}
-use Rattle.rulings.proofs.Bytes.{byte_past, same_bytes}
+use Rattle.rulings.proofs.Bytes.{same_list}
+use Rattle.rulings.proofs.Orders.{strict_total}
 
--- the bytes below i are equal
-abbrev pub Alike : Ruling → Ruling → ℕ → Type 0
-Alike r s i = (k : ℕ) → k < i → byte r k ≡ byte s k
+-- at the first place where they differ, the number in the one list is the smaller
+record Smaller (xs ys : List ℕ) : Type 0 where
+  pub place : ℕ
+  pub same_before : (i : ℕ) → i < place → get_or xs i 0 ≡ get_or ys i 0
+  pub smaller : get_or xs place 0 < get_or ys place 0
 
--- sixteen equal bytes leave neither before the other
-pub not_alike : (r s : Ruling) → Alike r s 16 → Precedes r s → ⊥
-not_alike r s same p =
-    elim (cases_lt p.place 16) [
-      | inl h ↦ omega (arith, same p.place h, p.smaller)
-      | inr h ↦ omega (arith, byte_past s p.place h, p.smaller)
-    ]
+abbrev Compared : Ordering → List ℕ → List ℕ → Type 0
+Compared o xs ys = MatchOrdering o (Smaller xs ys) (xs ≡ ys) (Smaller ys xs)
 
-irreflexive : (r : Ruling) → Precedes r r → ⊥
-irreflexive r p = omega (arith, p.smaller)
+smaller_here : (x y : ℕ) (xs ys : List ℕ) → x < y → Smaller (x ∷ xs) (y ∷ ys)
+smaller_here x y xs ys h = record { place = 0; same_before = λ i l. absurd (omega arith); smaller = h }
 
-transitive : (r s t : Ruling) → Precedes r s → Precedes s t → Precedes r t
-transitive r s t p q =
+smaller_later : (x y : ℕ) (xs ys : List ℕ) → x ≡ y → Smaller xs ys → Smaller (x ∷ xs) (y ∷ ys)
+smaller_later x y xs ys e s = record { place = suc s.place; same_before = before; smaller = s.smaller }
+  where
+    before : (i : ℕ) → i < suc s.place → get_or (x ∷ xs) i 0 ≡ get_or (y ∷ ys) i 0
+    before zero l = e
+    before (suc i) l = s.same_before i (omega arith)
+
+compared_more : (x y : ℕ) (xs ys : List ℕ) (o rest : Ordering) → MatchOrdering o (x < y) (x ≡ y) (y < x) → Compared rest xs ys →
+    Compared (ordering_then o rest) (x ∷ xs) (y ∷ ys)
+compared_more x y xs ys Less rest h k = smaller_here x y xs ys h
+compared_more x y xs ys Greater rest h k = smaller_here y x ys xs h
+compared_more x y xs ys Equal Less h k = smaller_later x y xs ys h k
+compared_more x y xs ys Equal Equal h k = ap₂ ◌∷◌ h k
+compared_more x y xs ys Equal Greater h k = smaller_later y x ys xs (sym h) k
+
+compared : (xs ys : List ℕ) → length xs ≡ length ys → Compared (slice_cmp nat_cmp xs ys) xs ys
+compared [] [] e = refl
+compared [] (y ∷ ys) e = absurd (omega arith)
+compared (x ∷ xs) [] e = absurd (omega arith)
+compared (x ∷ xs) (y ∷ ys) e = compared_more x y xs ys (nat_cmp x y) (slice_cmp nat_cmp xs ys) (ranks x y) (compared xs ys (omega arith))
+
+asymmetric : (r s : Ruling) → Precedes r s → Precedes s r → ⊥
+asymmetric r s p q =
     elim (cases_order p.place q.place) [
-      | inl e ↦ record {
-        place = p.place;
-        same_before = λ i h. p.same_before i h ∙ q.same_before i (omega arith);
-        smaller = omega (arith, p.smaller, rw (← e) at q.smaller);
-      }
-      | inr (inl h) ↦ record {
-        place = p.place;
-        same_before = λ i l. p.same_before i l ∙ q.same_before i (omega arith);
-        smaller = omega (arith, p.smaller, q.same_before p.place h);
-      }
-      | inr (inr h) ↦ record {
-        place = q.place;
-        same_before = λ i l. p.same_before i (omega arith) ∙ q.same_before i l;
-        smaller = omega (arith, q.smaller, p.same_before q.place h);
-      }
+      | inl e ↦ omega (arith, p.smaller, rw (← e) at q.smaller)
+      | inr (inl h) ↦ omega (arith, p.smaller, q.same_before p.place h)
+      | inr (inr h) ↦ omega (arith, q.smaller, p.same_before q.place h)
     ]
 
--- two rulings are alike below n, or one comes before the other
-compared : (r s : Ruling) (n : ℕ) → Alike r s n ⊎ (Precedes r s ⊎ Precedes s r)
-compared r s zero = inl (below_none (λ k. byte r k ≡ byte s k))
-compared r s (suc n) =
-    elim (compared r s n) [
-      | inr p ↦ inr p
-      | inl same ↦ elim (cases_order (byte r n) (byte s n)) [
-        | inl e ↦ inl (rw (← add-one) (below_more (λ k. byte r k ≡ byte s k) n same e))
-        | inr (inl h) ↦ inr (inl (record { place = n; same_before = same; smaller = h }))
-        | inr (inr h) ↦ inr (inr (record { place = n; same_before = λ k l. sym (same k l); smaller = h }))
-      ]
-    ]
+row_less : (r s : Ruling) (o : Ordering) → Compared o r.bytes s.bytes → (o ≡ Less) ↔ Precedes r s
+row_less r s Less k = (λ _. record { place = k.place; same_before = k.same_before; smaller = k.smaller }, λ _. refl)
+row_less r s Equal k = (λ e. cc, λ p. absurd (asymmetric r s p (subst (λ t. Precedes t r) (same_list r s k) (subst (λ t. Precedes r t) (sym (same_list r s k)) p))))
+row_less r s Greater k =
+    (λ e. cc, λ p. absurd (asymmetric r s p (record { place = k.place; same_before = k.same_before; smaller = k.smaller })))
 
-total : (r s : Ruling) → Precedes r s ⊎ (r ≡ s) ⊎ Precedes s r
-total r s =
-    elim (compared r s 16) [
-      | inl same ↦ inr (inl (same_bytes r s same))
-      | inr (inl p) ↦ inl p
-      | inr (inr p) ↦ inr (inr p)
-    ]
+row_same : (r s : Ruling) (o : Ordering) → Compared o r.bytes s.bytes → o ≡ Equal → r ≡ s
+row_same r s Less k e = cc
+row_same r s Equal k e = same_list r s k
+row_same r s Greater k e = cc
+
+-- the row order is that of comparing the bytes
+pub by_bytes : IsOrderOf (on (λ (r : Ruling). r.bytes) (slice_cmp nat_cmp)) Precedes
+by_bytes = record {
+  less = λ r s. row_less r s _ (compared r.bytes s.bytes (r.long ∙ sym s.long));
+  same = λ r s. row_same r s _ (compared r.bytes s.bytes (r.long ∙ sym s.long));
+}
 
 pub row_order : StrictTotal Precedes
-row_order = record { irreflexive = irreflexive; transitive = transitive; total = total }
+row_order = strict_total (on_total (λ (r : Ruling). r.bytes) nat_list_cmp_total) by_bytes

@@ -1,6 +1,7 @@
 ghost use Rattle.std.specs.Prelude.{◌≡◌, ℕ, ◌<◌, length, slice_index};
 
 mod algebra;
+mod bytes;
 pub mod laws;
 mod lowest;
 mod members;
@@ -9,7 +10,8 @@ pub mod words;
 
 // A ruling (an interpretation): a set of points.
 // Point a is the bit of worth 2^(a mod 8) in byte a div 8.
-#[derive(Clone, Copy, PartialEq, Eq, Debug)]
+// The order is that of the bytes: the smaller byte at the first byte that differs comes first.
+#[derive(Clone, Copy, PartialEq, Eq, PartialOrd, Ord, Debug)]
 pub struct Ruling {
     bytes: [u8; 16],
     ghost long: { length bytes ≡ 16 },

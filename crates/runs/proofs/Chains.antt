@@ -1,16 +1,14 @@
 -- Histories grown call by call: the empty one, and one extended by a call.
-use Rattle.std.proofs.Common.{◌≡◌, ℕ, zero, suc, ◌+◌, ◌<◌, ◌≤◌, cond, leb, List, [], ◌∷◌, ◌++◌, map, length, get_or, take, Some, None, Option, sym, refl, ap, ◌∙◌, subst, ⊎_elim, arith}
+use Rattle.std.proofs.Common.{◌≡◌, ℕ, ◌+◌, ◌<◌, ◌≤◌, cond, leb, List, [], ◌∷◌, ◌++◌, map, length, get_or, take, Some, sym, refl, ap, ◌∙◌, subst, ⊎_elim, arith}
 use Rattle.std.specs.List.{slice_get}
-use Rattle.std.proofs.lemmas.List.{length_push, take_all, take_more, map_push}
+use Rattle.std.proofs.lemmas.List.{length_push, take_all, take_more, map_push, get_or_append_left}
+use Rattle.std.proofs.Math.Seq.{get_or-append_seam}
 use Rattle.std.proofs.lemmas.Bool.{cases_order, cond-true, cond-false, le-leb, lt-leb}
-use Rattle.std.proofs.lemmas.Option.{slice_get_past}
+use Rattle.std.proofs.lemmas.Option.{slice_get_past, slice_get-get_or}
 use Rattle.marker.specs.declared.marker.Marker.{Marker}
 use Rattle.runs.specs.History.{History, BrokenOff}
 use Rattle.runs.specs.Step.{Language}
 use Rattle.runs.specs.Told.{Told}
-
-some_is_not_none : {X A : Type 0} (x : X) → ◌≡◌ {A = Option X} (Some x) None → A
-some_is_not_none x e = let z : ◌≡◌ {A = ℕ} 0 1 = cc in absurd (omega arith)
 
 -- no call was made
 pub nothing : {B : Type 0} (L : Language B) (s : Marker B) → History L s [] [] s
@@ -20,17 +18,15 @@ nothing L s =
       starts = refl;
       ends = refl;
       each = refl;
-      step = λ i c t made answered. some_is_not_none c (sym made ∙ slice_get_past [] i (omega arith));
+      step = λ i c t made answered. absurd (cc (slice_get_past {X = L.Calls} [] i (omega arith)));
     }
 
 nth_before : {X : Type 0} (xs : List X) (y : X) (i : ℕ) → i < length xs → slice_get (xs ++ y ∷ []) i ≡ slice_get xs i
-nth_before [] y i h = absurd (omega arith)
-nth_before (x ∷ xs) y zero h = refl
-nth_before (x ∷ xs) y (suc i) h = nth_before xs y i (omega arith)
+nth_before xs y i h =
+    slice_get-get_or (xs ++ y ∷ []) i y (omega (arith, length_push xs y)) ∙ ap Some (get_or_append_left xs (y ∷ []) y i h) ∙ sym (slice_get-get_or xs i y h)
 
 nth_last : {X : Type 0} (xs : List X) (y : X) → slice_get (xs ++ y ∷ []) (length xs) ≡ Some y
-nth_last [] y = refl
-nth_last (x ∷ xs) y = nth_last xs y
+nth_last xs y = slice_get-get_or (xs ++ y ∷ []) (length xs) y (omega (arith, length_push xs y)) ∙ ap Some (get_or-append_seam xs y [] y)
 
 last_is : {X : Type 0} (xs : List X) (x y : X) (i : ℕ) → i ≡ length xs → slice_get (xs ++ x ∷ []) i ≡ Some y → x ≡ y
 last_is xs x y i e h = let l = nth_last xs x in let m = ap (slice_get (xs ++ x ∷ [])) e in cc
@@ -66,7 +62,7 @@ module _ {B : Type 0} (L : Language B) {s e : Marker B} {cs : List L.Calls} {ts 
       let lt : i < length ts = omega (arith, h.each) in
       does_at (h.moment i) (h.moment (i + 1)) (at i) (at (i + 1)) d u (sym a) (sym b)
       (h.step i d u (sym (nth_before cs c i l) ∙ made) (sym (nth_before ts t i lt) ∙ answered)))
-      (λ (l : length cs < i). some_is_not_none d (sym made ∙ slice_get_past (cs ++ c ∷ []) i (omega (arith, length_push cs c)))))
+      (λ (l : length cs < i). absurd (cc (slice_get_past (cs ++ c ∷ []) i (omega (arith, length_push cs c))))))
       (cases_order i (length cs))
 
   pub extend : L.does c e t e' → History L s (cs ++ c ∷ []) (ts ++ t ∷ []) e'

@@ -1,7 +1,7 @@
 -- What is denied is denied for one reason only, and what is answered is not denied.
 use Rattle.std.proofs.Common.{◌≡◌, ℕ, ◌<◌, ◌≤◌, ltb, List, length, Some, sym, ap, ◌∙◌, subst, inl, inr, ⊎_elim, arith, ltb-true}
 use Rattle.std.proofs.lemmas.Bool.{cases_order}
-use Rattle.rulings.specs.Points.{Points, Lowest}
+use Rattle.rulings.specs.Points.{Lowest}
 use Rattle.rulings.specs.Rulings.{has}
 use Rattle.rulings.specs.declared.ruling.Ruling.{Ruling}
 use Rattle.semantics.specs.Meaning.{Meaning}
@@ -13,6 +13,7 @@ use Rattle.answers.specs.declared.fault.Refusal.TheVariants.{StrayMark}
 use Rattle.answers.specs.declared.fault.Layer.TheVariants as layer
 use Rattle.answers.specs.declared.fault.Fault.{Fault}
 use Rattle.answers.specs.Faults.{fault_of}
+use Rattle.books.specs.Faults.{one_lowest}
 use Rattle.books.specs.Promise.{stray}
 use Rattle.chapters.specs.Fitting.{upward, FirstUpward, UpwardDenied}
 use Rattle.marker.specs.Judging.{NoStray, StrayDenied}
@@ -20,19 +21,9 @@ use Rattle.marker.specs.Listing.{NoneWide, WideDenied, NotTried, TriedInVain}
 use Rattle.runs.specs.Law.{ByChapterDenied, ListingDenied}
 use Rattle.runs.proofs.Listings.{same_listing}
 
--- a set has one lowest point
-lowest_once : (x : Points) (a b : ℕ) → Lowest x (Some a) → Lowest x (Some b) → a ≡ b
-lowest_once x a b p q =
-    ⊎_elim
-    (λ (e : a ≡ b). e)
-    (⊎_elim
-    (λ (l : a < b). false_is_not_true (sym (q.1 a l) ∙ p.0))
-    (λ (l : b < a). false_is_not_true (sym (p.1 b l) ∙ q.0)))
-    (cases_order a b)
-
 pub stray_once : (m : Meaning) (y : Ruling) (f f' : Fault) → StrayDenied m y f → StrayDenied m y f' → f ≡ f'
 stray_once m y f f' (s, e, low) (s', e', low') =
-    e ∙ ap (λ (n : ℕ). fault_of layer.Marker (StrayMark n)) (lowest_once (stray m.size (has y)) s s' low low') ∙ sym e'
+    e ∙ ap (λ (n : ℕ). fault_of layer.Marker (StrayMark n)) (one_lowest (stray m.size (has y)) s s' low low') ∙ sym e'
 
 pub not_stray : {A : Type 0} (m : Meaning) (y : Ruling) (f : Fault) → NoStray m y → StrayDenied m y f → A
 not_stray m y f none (s, e, low) = false_is_not_true (sym (none s) ∙ low.0)
@@ -43,7 +34,7 @@ first_once m ch a b c d (u, read, reader) (u', read', reader') =
     ⊎_elim
     (λ (e : a ≡ c). (
       e,
-      lowest_once (upward m ch a) b d (u, read)
+      one_lowest (upward m ch a) b d (u, read)
           (subst (λ (n : ℕ). Lowest (upward m ch n) (Some d)) (sym e) (u', read')),
     ))
     (⊎_elim

@@ -1,7 +1,6 @@
 -- The law of two histories, over any two languages of calls that keep what their kinds owe; and the marker's own calls.
-use Rattle.std.proofs.Common.{◌≡◌, ℕ, ◌+◌, ◌⊎◌, ◌↔◌, List, sym, ◌∙◌, subst, inl, inr, arith}
+use Rattle.std.proofs.Common.{◌≡◌, ℕ, ◌+◌, ◌⊎◌, ◌↔◌, List, sym, ◌∙◌, subst, inl, inr}
 use Rattle.rulings.specs.Rulings.{has}
-use Rattle.rulings.specs.declared.ruling.Ruling.{Ruling}
 use Rattle.semantics.specs.Meaning.{Meaning}
 use Rattle.semantics.specs.Closure.{Stable}
 use Rattle.books.specs.declared.book.Book.{Ghosts as Sort}
@@ -9,7 +8,7 @@ use Rattle.marker.specs.declared.marker.Marker.{Marker}
 use Rattle.answers.specs.declared.verdict.Verdict.TheVariants as says
 use Rattle.runs.specs.History.{History, BrokenOff, AskedAt, Asked, Unchanged}
 use Rattle.runs.specs.Law.{Law, Either, JudgingsAgree, Compared, ComparedSoFar, LawOfAllHistories}
-use Rattle.runs.specs.Step.{Language, Kind, to_judge, to_judge_by_chapter, to_read, to_list, to_change, means, marker_calls}
+use Rattle.runs.specs.Step.{Language, Kind, to_judge, to_judge_by_chapter, to_read, to_list, means, marker_calls}
 use Rattle.runs.specs.Told.{Told, verdict, chapter_verdict, reading, listing}
 use Rattle.runs.proofs.CallKinds.{Keeps, Promises, marker_keeps}
 use Rattle.runs.proofs.Listings.{same_listing, same_listed}
@@ -28,12 +27,6 @@ module _ {B : Type 0} (L : Language B) (keeps : Keeps L) {s e : Marker B} {cs : 
   asked : (q : Kind) (m : Meaning) (ch : ℕ → ℕ) (t : Told) → Asked h q m ch t → Owes q m ch t
   asked q m ch t (i, a) = asked_at i q m ch t a
 
-  judging_changes_nothing : (y : Ruling) → to_judge y ≡ to_change → ⊥
-  judging_changes_nothing y e = let z : ◌≡◌ {A = ℕ} 0 1 = cc in omega arith
-
-  judging_by_chapter_changes_nothing : (y : Ruling) → to_judge_by_chapter y ≡ to_change → ⊥
-  judging_by_chapter_changes_nothing y e = let z : ◌≡◌ {A = ℕ} 0 1 = cc in omega arith
-
   judgings_agree : JudgingsAgree h
   judgings_agree y i j m m' ch ch' v w a b un =
       let one = given (judging m y) v (asked_at i (to_judge y) m ch (verdict v) a) in
@@ -45,9 +38,9 @@ module _ {B : Type 0} (L : Language B) (keeps : Keeps L) {s e : Marker B} {cs : 
     where
       moments : Unchanged h i j ⊎ Unchanged h j i → means L.meaning (h.moment i) ≡ means L.meaning (h.moment j)
       moments (inl u) =
-          sym (between L keeps h i j (to_judge y) (to_judge_by_chapter y) m m' ch ch' (verdict v) (chapter_verdict w) a b (judging_changes_nothing y) u)
+          sym (between L keeps h i j (to_judge y) (to_judge_by_chapter y) m m' ch ch' (verdict v) (chapter_verdict w) a b (λ e. cc) u)
       moments (inr u) =
-          between L keeps h j i (to_judge_by_chapter y) (to_judge y) m' m ch' ch (chapter_verdict w) (verdict v) b a (judging_by_chapter_changes_nothing y) u
+          between L keeps h j i (to_judge_by_chapter y) (to_judge y) m' m ch' ch (chapter_verdict w) (verdict v) b a (λ e. cc) u
 
       same : m ≡ m'
       same = sym a.meant ∙ moments un ∙ b.meant

@@ -1,6 +1,5 @@
--- Lemmas on histories of calls, on rows lent to a call, on what each call owes, on denials, listings and readings; the law over any languages of calls.
+-- Lemmas on histories of calls, on what each call owes, on denials, listings and readings; the law over any languages of calls.
 pub mod Chains
-pub mod Rows
 pub mod CallKinds
 pub mod Listings
 pub mod Denials

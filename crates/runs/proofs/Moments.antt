@@ -1,7 +1,8 @@
 -- From one moment of a history to a later one: the book means the same where no change of it was accepted.
-use Rattle.std.proofs.Common.{◌≡◌, ℕ, zero, suc, ◌+◌, ◌-◌, ◌<◌, ◌≤◌, List, [], ◌∷◌, Some, sym, refl, ap, ◌∙◌, subst, inl, inr, ⊎_elim, arith}
+use Rattle.std.proofs.Common.{◌≡◌, ℕ, zero, suc, ◌+◌, ◌-◌, ◌<◌, ◌≤◌, List, get_or, Some, sym, refl, ap, ◌∙◌, subst, inl, inr, ⊎_elim, arith}
 use Rattle.std.specs.List.{slice_get}
 use Rattle.std.proofs.lemmas.Bool.{cases_order}
+use Rattle.std.proofs.lemmas.Option.{slice_get-get_or, slice_get_within}
 use Rattle.semantics.specs.Meaning.{Meaning}
 use Rattle.marker.specs.declared.marker.Marker.{Marker}
 use Rattle.runs.specs.History.{History, AskedAt, Unchanged}
@@ -21,10 +22,7 @@ leaves f to_keep s t s' same none = same
 
 -- below an element of a list there are elements
 there : {X : Type 0} (xs : List X) (j n : ℕ) (x : X) → slice_get xs j ≡ Some x → n ≤ j → (y : X) × (slice_get xs n ≡ Some y)
-there [] j n x e l = let z : ◌≡◌ {A = ℕ} 0 1 = cc in absurd (omega arith)
-there (y ∷ ys) j zero x e l = (y, refl)
-there (y ∷ ys) zero (suc n) x e l = absurd (omega arith)
-there (y ∷ ys) (suc j) (suc n) x e l = there ys j n x e (omega arith)
+there xs j n x e l = (get_or xs n x, slice_get-get_or xs n x (omega (arith, slice_get_within xs j x e)))
 
 module _ {B : Type 0} (L : Language B) (keeps : Keeps L) {s e : Marker B} {cs : List L.Calls} {ts : List Told} (h : History L s cs ts e) where
   abbrev meant_at : ℕ → Meaning

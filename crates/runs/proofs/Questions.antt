@@ -1,5 +1,5 @@
 -- The four questions: each is denied for one reason, or given an answer that excludes every reason.
-use Rattle.std.proofs.Common.{◌≡◌, ℕ, ◌≤◌, ◌⊎◌, ◌↔◌, List, length, take, Ok, Err, Result, sym, ap, ◌∙◌, subst, ap₂, inl, inr, arith}
+use Rattle.std.proofs.Common.{◌≡◌, ℕ, ◌≤◌, ◌⊎◌, ◌↔◌, List, length, take, Ok, Err, Result, sym, ap, ◌∙◌, subst, inl, inr, arith}
 use Rattle.std.proofs.lemmas.List.{length-take}
 use Rattle.rulings.specs.Rulings.{has}
 use Rattle.rulings.specs.declared.ruling.Ruling.{Ruling}
@@ -40,13 +40,10 @@ module _ {X : Type 0} (tell : X → Told) (Denying : Fault → Type 0) (Giving :
     pub apart : (x : X) (f : Fault) → tell x ≡ denied f → ⊥
     pub known : (x x' : X) → tell x ≡ tell x' → x ≡ x'
 
-same_fault : (f f' : Fault) → denied f ≡ denied f' → f ≡ f'
-same_fault f f' e = cc
-
 module _ {X : Type 0} {tell : X → Told} {Denying : Fault → Type 0} {Giving : X → Type 0} (q : Question tell Denying Giving) where
   pub denied_exactly : (t : Told) → Answered tell Denying Giving t → (f : Fault) → (t ≡ denied f) ↔ Denying f
   denied_exactly t (inl (f', e, d)) f =
-      (λ e'. subst Denying (same_fault f' f (sym e ∙ e')) d, λ d'. e ∙ ap denied (q.once f' f d d'))
+      (λ e'. subst Denying (let same : f' ≡ f = cc in same) d, λ d'. e ∙ ap denied (q.once f' f d d'))
   denied_exactly t (inr (x, e, g)) f =
       (λ e'. absurd (q.apart x f (sym e ∙ e')), λ d'. absurd (q.excluded x f g d'))
 
@@ -97,7 +94,7 @@ judging m y =
     record {
       once = stray_once m y;
       excluded = λ v f g d. not_stray m y f g.inside d;
-      apart = λ v f e. let z : ◌≡◌ {A = ℕ} 0 1 = cc in omega arith;
+      apart = λ v f e. cc;
       known = λ v v' e. cc;
     }
 
@@ -106,32 +103,26 @@ judging_by_chapter m ch y =
     record {
       once = by_chapter_once m ch y;
       excluded = λ v f g d. not_by_chapter m ch y f g.inside g.fits d;
-      apart = λ v f e. let z : ◌≡◌ {A = ℕ} 0 1 = cc in omega arith;
+      apart = λ v f e. cc;
       known = λ v v' e. cc;
     }
-
-same_reading_told : (s p s' p' : Ruling) → reading s p ≡ reading s' p' → (s ≡ s') × (p ≡ p')
-same_reading_told s p s' p' e = (cc, cc)
 
 pub reading_whole : (m : Meaning) (ch : ℕ → ℕ) → Question reading_of (UpwardDenied m ch) (ReadingGiven m ch)
 reading_whole m ch =
     record {
       once = upward_once m ch;
       excluded = λ x f g d. fitting m ch f g.fits d;
-      apart = λ x f e. let z : ◌≡◌ {A = ℕ} 0 1 = cc in omega arith;
-      known = λ x x' e. let same = same_reading_told x.0 x.1 x'.0 x'.1 e in ap₂ (λ (s p : Ruling). (s, p)) same.0 same.1;
+      apart = λ x f e. cc;
+      known = λ x x' e. let s : x.0 ≡ x'.0 = cc in let p : x.1 ≡ x'.1 = cc in λ i. (s i, p i);
     }
-
-same_listing_told : (rows rows' : List Ruling) (effort effort' : ℕ) → listing rows effort ≡ listing rows' effort' → (rows ≡ rows') × (effort ≡ effort')
-same_listing_told rows rows' effort effort' e = (cc, cc)
 
 pub listing_all : (m : Meaning) (ch : ℕ → ℕ) (n : ℕ) → Question listing_of (ListingDenied m ch n) (ListingGiven m ch n)
 listing_all m ch n =
     record {
       once = listing_once m ch n;
       excluded = λ x f g d. not_listing m ch n f x.0 x.1 g.fits g.narrow g.effort g.within g.room g.by_chapters d;
-      apart = λ x f e. let z : ◌≡◌ {A = ℕ} 0 1 = cc in omega arith;
-      known = λ x x' e. let same = same_listing_told x.0 x'.0 x.1 x'.1 e in ap₂ (λ (rows : List Ruling) (effort : ℕ). (rows, effort)) same.0 same.1;
+      apart = λ x f e. cc;
+      known = λ x x' e. let r : x.0 ≡ x'.0 = cc in let n : x.1 ≡ x'.1 = cc in λ i. (r i, n i);
     }
 
 -- what is owed where a question was put

@@ -21,36 +21,37 @@ pub data Told : Type 0 where
   audit : List UpwardReading → Told
   denied : Fault → Told
 
-abbrev pub told : Answer → Told
-told answered.Done = done
-told (answered.Verdict v) = verdict v
-told (answered.ChapterVerdict v) = chapter_verdict v
-told (answered.Reading sure possible) = reading sure possible
-told (answered.Listing rows effort) = listing (vec_items rows) effort
-told (answered.Audit rows) = audit (vec_items rows)
-told (answered.Denied f) = denied f
+abbrev pub answer_told : Answer → Told
+answer_told answered.Done = done
+answer_told (answered.Verdict v) = verdict v
+answer_told (answered.ChapterVerdict v) = chapter_verdict v
+answer_told (answered.Reading sure possible) = reading sure possible
+answer_told (answered.Listing rows effort) = listing (vec_items rows) effort
+answer_told (answered.Audit rows) = audit (vec_items rows)
+
+-- what is told of a result: of its value, or that it was denied
+abbrev pub result_told : {A : Type 0} → (A → Told) → Result A Fault → Told
+result_told value_told (Ok a) = value_told a
+result_told value_told (Err f) = denied f
+
+abbrev pub told : Result Answer Fault → Told
+told r = result_told answer_told r
 
 -- what is told of the result of each of the marker's calls; the rows told are the ones written, as the call left them
 abbrev pub outcome_told : Outcome → Told
-outcome_told (Ok _) = done
-outcome_told (Err f) = denied f
+outcome_told r = result_told (λ _. done) r
 
 abbrev pub judgement_told : Result Verdict Fault → Told
-judgement_told (Ok v) = verdict v
-judgement_told (Err f) = denied f
+judgement_told r = result_told verdict r
 
 abbrev pub chapter_judgement_told : Result ChapterVerdict Fault → Told
-chapter_judgement_told (Ok v) = chapter_verdict v
-chapter_judgement_told (Err f) = denied f
+chapter_judgement_told r = result_told chapter_verdict r
 
 abbrev pub reading_told : Outcome → Ruling → Ruling → Told
-reading_told (Ok _) sure possible = reading sure possible
-reading_told (Err f) sure possible = denied f
+reading_told r sure possible = result_told (λ _. reading sure possible) r
 
 abbrev pub listing_told : Result Counts Fault → List Ruling → Told
-listing_told (Ok l) rows = listing (take l.rows rows) l.effort
-listing_told (Err f) rows = denied f
+listing_told r rows = result_told (λ l. listing (take l.rows rows) l.effort) r
 
 abbrev pub audit_told : Result ℕ Fault → List UpwardReading → Told
-audit_told (Ok n) rows = audit (take n rows)
-audit_told (Err f) rows = denied f
+audit_told r rows = result_told (λ n. audit (take n rows)) r

@@ -1,7 +1,8 @@
 // What calls answer, as data.
-use answers::{ChapterVerdict, Fault, UpwardReading, Verdict};
+use answers::{ChapterVerdict, UpwardReading, Verdict};
 use rulings::Ruling;
 
+// What a call answers where it is not denied.
 #[derive(Drop)]
 pub enum Answer {
     // a change, or a placing, was done
@@ -11,5 +12,4 @@ pub enum Answer {
     Reading { sure: Ruling, possible: Ruling },
     Listing { rows: Vec<Ruling>, effort: u32 },
     Audit(Vec<UpwardReading>),
-    Denied(Fault),
 }

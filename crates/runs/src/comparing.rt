@@ -7,6 +7,7 @@ ghost use Rattle.runs.specs.Told.{told};
 use crate::answer::Answer;
 use crate::call::Call;
 use crate::replaying::replay;
+use answers::Fault;
 use books::Book;
 use marker::Marker;
 use std::alloc::{AllocError, Global};
@@ -14,8 +15,8 @@ use std::alloc::{AllocError, Global};
 // What the calls of two runs answered.
 #[derive(Drop)]
 pub struct Comparison {
-    pub first: Vec<Answer>,
-    pub second: Vec<Answer>,
+    pub first: Vec<Result<Answer, Fault>>,
+    pub second: Vec<Result<Answer, Fault>>,
 }
 
 // Makes the calls of two runs, on two markers over any two books. The law holds of them: what is denied, listed, read

@@ -3,7 +3,7 @@
 
 use books::Book;
 use marker::Marker;
-use reader::serve;
+use reader::{LONGEST_INPUT, serve};
 use std::io;
 use std::io::{Read, Write};
 
@@ -19,6 +19,8 @@ pub fn serve_standard_streams<B: Book + Drop>(rt: &HostRuntime, book: B) -> io::
 // Standard input, as far as the first byte past what the reader takes: enough to know that it is too long.
 pub fn read_input(rt: &HostRuntime) -> io::Result<Vec<u8>> {
     let mut input = Vec::new(rt.alloc());
-    rt.stdin().take(32_769).read_to_end(&mut input)?;
+    rt.stdin()
+        .take(LONGEST_INPUT as u64 + 1)
+        .read_to_end(&mut input)?;
     Ok(input)
 }

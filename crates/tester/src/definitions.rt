@@ -1,7 +1,8 @@
 // Closures as they are defined: of all sets that are closed, the one that is part of every other. Nothing is worked
 // out step by step; every set is tried.
-use crate::masks::{Mask, subsets};
+use crate::masks::Mask;
 use crate::small_book::SmallBook;
+use answers::Verdict;
 
 // Where a closure is taken: of which points, and over which ruling of the lower ones. The book read whole is all its
 // points over nothing.
@@ -11,65 +12,34 @@ pub(crate) struct Scope {
     pub(crate) lower: Mask,
 }
 
-// What comes of comparing a set with its closure.
-#[derive(Clone, Copy, PartialEq, Eq)]
-pub(crate) enum Finding {
-    Stable,
-    // the set has the point, and its closure does not
-    Unfounded(u8),
-    // the closure has the point, and the set does not
-    Missing(u8),
-    // no closed set is part of every closed set: then the book breaks its laws
-    NoClosure,
-}
-
-// The smallest closed set of the scope's points, by comparing with every other.
+// The smallest closed set of the scope's points. Where there is none, the book breaks its laws.
 pub(crate) fn closure<S: SmallBook>(book: &S, scope: Scope, y: Mask) -> Option<Mask> {
-    for bits in 0..subsets(book.size()) {
-        let x = Mask::from_bits(bits);
-        if is_closed(book, scope, x, y) && is_part_of_every_closed(book, scope, x, y) {
-            return Some(x);
-        }
-    }
-    None
+    least(book.size(), |x| is_closed(book, scope, x, y))
 }
 
-fn is_part_of_every_closed<S: SmallBook>(book: &S, scope: Scope, x: Mask, y: Mask) -> bool {
-    for bits in 0..subsets(book.size()) {
-        let other = Mask::from_bits(bits);
-        if is_closed(book, scope, other, y) && !x.is_part_of(other) {
-            return false;
-        }
-    }
-    true
+// Of all sets of the points below a size that pass a test, the one that is part of every other.
+pub(crate) fn least<F: Fn(Mask) -> bool>(size: u8, passes: F) -> Option<Mask>
+    requires { F.IsAlwaysCallable passes }
+{
+    Mask::sets(size).find(|&set| {
+        passes(set) && Mask::sets(size).all(|other| !passes(other) || set.is_part_of(other))
+    })
 }
 
 // Whether x is a set of the scope's points that has each of them that derives under the pair (x, y), both joined with
 // the lower points.
 fn is_closed<S: SmallBook>(book: &S, scope: Scope, x: Mask, y: Mask) -> bool {
     let (first, second) = (scope.lower.union(x), scope.lower.union(y));
-    for point in 0..book.size() {
-        if scope.points.has(point) && !x.has(point) && book.derives(point, first, second) {
-            return false;
-        }
-    }
+    let missing = scope.points.without(x);
     x.is_part_of(scope.points)
+        && !(0..book.size()).any(|point| missing.has(point) && book.derives(point, first, second))
 }
 
 // The lowest point on which a set and its closure differ decides.
-pub(crate) fn find(set: Mask, closure: Option<Mask>) -> Finding {
-    let Some(closure) = closure else {
-        return Finding::NoClosure;
-    };
-    let apart = set.without(closure).union(closure.without(set));
-    match apart.lowest() {
-        None => Finding::Stable,
-        Some(point) => {
-            if set.has(point) {
-                Finding::Unfounded(point)
-            } else {
-                Finding::Missing(point)
-            }
-        }
+pub(crate) fn verdict(set: Mask, closure: Mask) -> Verdict {
+    match set.difference(closure).lowest() {
+        None => Verdict::Stable,
+        Some(point) if set.has(point) => Verdict::Unfounded(point),
+        Some(point) => Verdict::Missing(point),
     }
 }

@@ -1,9 +1,17 @@
 // Numbers drawn by a linear congruential generator: the same in every run.
 use crate::masks::Mask;
+use crate::placements::Placement;
 
 #[derive(Drop)]
 pub(crate) struct Draws {
     state: u64,
+}
+
+// Which points a point of a drawn book may read: any, or only those that keep the chapters fitting.
+#[derive(Clone, Copy)]
+pub(crate) enum Reach {
+    Any,
+    Fitting,
 }
 
 impl Draws {
@@ -13,19 +21,15 @@ impl Draws {
 
     // A number below a bound, or 0.
     pub(crate) fn below(&mut self, bound: u8) -> u8 {
-        let byte = self.byte();
-        if bound == 0 { 0 } else { byte % bound }
+        self.byte().checked_rem(bound).unwrap_or(0)
     }
 
     // A set of some of the points: each with a chance of about a third, so that bodies are short.
     pub(crate) fn some_of(&mut self, points: Mask) -> Mask {
-        let mut some = Mask::empty();
-        for point in 0..8u8 {
-            if self.below(3) == 0 {
-                some = some.with(point);
-            }
-        }
-        some.within(points)
+        (0..8)
+            .filter(|_| self.below(3) == 0)
+            .fold(Mask::empty(), Mask::with)
+            .within(points)
     }
 
     // The high digits: the low ones of such a generator repeat soon.
@@ -35,5 +39,17 @@ impl Draws {
             .wrapping_mul(6_364_136_223_846_793_005)
             .wrapping_add(1_442_695_040_888_963_407);
         ((self.state >> 48) & 0xff) as u8
+    }
+}
+
+impl Reach {
+    pub(crate) fn readable(self, placement: &Placement, point: u8) -> Mask {
+        match self {
+            Reach::Any => Mask::all(placement.size()),
+            Reach::Fitting => {
+                let own = placement.chapter(point);
+                placement.points(|chapter| chapter <= own)
+            }
+        }
     }
 }

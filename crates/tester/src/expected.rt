@@ -1,104 +1,119 @@
 // What the definitions say that the calls of a marker are to answer.
 use crate::masks::Mask;
 use crate::parts::Parts;
-use crate::saying::Said;
+use crate::saying::{Answer, Reading, Said};
 use crate::small_book::{Case, SmallBook};
 use crate::upward;
-use crate::whole::{Closures, Model};
-use answers::{Fault, Layer, Refusal};
+use crate::whole::Whole;
+use answers::{Fault, Layer, Refusal, UpwardReading};
+use rulings::Ruling;
+use std::alloc::{AllocError, Global};
 
-#[derive(Clone, Copy)]
-pub(crate) struct Expected {
-    closures: Closures,
-    model: Option<Model>,
-    parts: Parts,
-    // why what goes by the chapters is denied: they do not fit
-    denied: Option<Fault>,
+#[derive(Drop)]
+pub(crate) struct Expected<'a, S> {
+    pub(crate) case: &'a Case<'a, S>,
+    whole: &'a Whole,
+    // what goes by the chapters, unless it is denied because they do not fit
+    parts: Result<Parts<'a>, Fault>,
+    // every ruling whose parts are all stable; none where the listing is denied before it tries anything
+    pub(crate) listing: Written<Ruling>,
+    // every upward reading
+    pub(crate) audit: Written<UpwardReading>,
 }
 
-impl Expected {
-    pub(crate) fn of<S: SmallBook>(
-        case: &Case<S>,
-        closures: Closures,
-        model: Option<Model>,
-    ) -> Expected {
-        Expected {
-            closures,
-            model,
-            parts: Parts::of(case),
-            denied: match upward::lowest(case) {
-                None => None,
-                Some(found) => Some(denial(Refusal::ReadsUpward(found.reader, found.read))),
+// What a call is to write into rows that it is lent, and to answer if they are enough.
+#[derive(Drop)]
+pub(crate) struct Written<T> {
+    pub(crate) rows: Vec<T>,
+    answer: Answer,
+}
+
+impl<'a, S: SmallBook> Expected<'a, S> {
+    pub(crate) fn of(
+        heap: Global,
+        case: &'a Case<'a, S>,
+        whole: &'a Whole,
+    ) -> Result<Expected<'a, S>, AllocError> {
+        let upward = upward::readings(heap, case)?;
+        // the lowest reader is named, with the lowest point that it reads upward
+        let lowest = upward.iter().min_by_key(|found| (found.reader, found.read));
+        let parts = match lowest {
+            Some(found) => Err(denial(Refusal::ReadsUpward(found.reader, found.read))),
+            None => Ok(Parts::of(heap, case)?),
+        };
+        Ok(Expected {
+            case,
+            whole,
+            listing: listing(heap, &parts)?,
+            audit: Written {
+                answer: Ok(Said::Audited(upward.len())),
+                rows: upward,
             },
-        }
+            parts,
+        })
     }
 
     pub(crate) fn chapters_fit(&self) -> bool {
-        self.denied.is_none()
+        self.parts.is_ok()
     }
 
-    pub(crate) fn judged(&self, ruling: Mask) -> Said {
-        Said::Judged(self.closures.finding(ruling))
+    fn parts(&self) -> Result<&Parts<'a>, Fault> {
+        self.parts.as_ref().map_err(|fault| *fault)
+    }
+
+    pub(crate) fn judged(&self, ruling: Mask) -> Answer {
+        Ok(Said::Judged(self.whole.verdict(ruling)))
     }
 
     pub(crate) fn is_stable(&self, ruling: Mask) -> bool {
-        self.closures.is_stable(ruling)
+        self.whole.is_stable(ruling)
     }
 
-    pub(crate) fn judged_by_chapter(&self, ruling: Mask) -> Said {
-        match self.denied {
-            Some(fault) => Said::Denied(fault),
-            None => Said::JudgedByChapter(self.parts.finding(ruling)),
-        }
+    pub(crate) fn judged_by_chapter(&self, ruling: Mask) -> Answer {
+        Ok(Said::JudgedByChapter(self.parts()?.verdict(ruling)))
+    }
+
+    // Whether all parts of the ruling are stable in their chapters, and these fit.
+    pub(crate) fn is_stable_by_chapter(&self, ruling: Mask) -> bool {
+        self.parts().is_ok_and(|parts| parts.are_stable(ruling))
     }
 
     // The well-founded model of the book read whole, whatever the chapters.
-    pub(crate) fn read(&self) -> Said {
-        if let Some(fault) = self.denied {
-            return Said::Denied(fault);
-        }
-        match self.model {
-            None => Said::None,
-            Some(model) => Said::Reading {
-                sure: model.sure.ruling(),
-                possible: model.possible.ruling(),
-            },
-        }
-    }
-
-    pub(crate) fn listed(&self, lent: usize) -> Said {
-        if let Some(fault) = self.denied {
-            return Said::Denied(fault);
-        }
-        let rows = self.parts.count();
-        if rows > lent {
-            return Said::Denied(denial(Refusal::ListTooShort));
-        }
-        Said::Listing {
-            rows,
-            effort: self.parts.effort(),
-        }
-    }
-
-    // How many rulings a listing is to find; none where it is denied before it tries anything.
-    pub(crate) fn results(&self) -> usize {
-        match self.denied {
-            Some(_) => 0,
-            None => self.parts.count(),
-        }
-    }
-
-    // Whether a listing is to find the ruling: all its parts are stable in their chapters.
-    pub(crate) fn lists(&self, ruling: Mask) -> bool {
-        self.chapters_fit() && self.parts.are_stable(ruling)
+    pub(crate) fn read(&self) -> Answer {
+        self.parts()?;
+        Ok(Said::Reading(self.whole.well_founded().map(Reading::from)))
     }
 }
 
-pub(crate) fn audited(upward: usize, lent: usize) -> Said {
-    if upward > lent {
-        Said::Denied(denial(Refusal::ListTooShort))
-    } else {
-        Said::Audited(upward)
+impl<T> Written<T> {
+    // Whether so many rows are enough.
+    pub(crate) fn fits(&self, lent: usize) -> bool {
+        self.rows.len() <= lent
+    }
+
+    pub(crate) fn answer(&self, lent: usize) -> Answer {
+        if self.fits(lent) {
+            self.answer
+        } else {
+            Err(denial(Refusal::ListTooShort))
+        }
+    }
+}
+
+fn listing(heap: Global, parts: &Result<Parts, Fault>) -> Result<Written<Ruling>, AllocError> {
+    match parts {
+        Err(fault) => Ok(Written {
+            rows: Vec::new(heap),
+            answer: Err(*fault),
+        }),
+        Ok(parts) => {
+            let rows = parts.stable(heap)?;
+            let answer = Ok(Said::Listing {
+                rows: rows.len(),
+                effort: parts.effort(),
+            });
+            Ok(Written { rows, answer })
+        }
     }
 }
 

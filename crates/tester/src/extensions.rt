@@ -1,5 +1,6 @@
 // Extensions of a protest book from its attacks alone: a lodged point attacks the lodged points that it protests.
-use crate::masks::{Mask, subsets};
+use crate::definitions::least;
+use crate::masks::Mask;
 use crate::protest_books::SmallProtestBook;
 use crate::small_book::SmallBook;
 
@@ -12,52 +13,22 @@ pub(crate) fn is_stable_extension(book: &SmallProtestBook, set: Mask) -> bool {
 
 // The smallest fixpoint of the characteristic function: the one that is part of every other.
 pub(crate) fn grounded_extension(book: &SmallProtestBook) -> Option<Mask> {
-    for bits in 0..subsets(book.size()) {
-        let set = Mask::from_bits(bits);
-        if is_fixpoint(book, set) && is_part_of_every_fixpoint(book, set) {
-            return Some(set);
-        }
-    }
-    None
-}
-
-fn is_part_of_every_fixpoint(book: &SmallProtestBook, set: Mask) -> bool {
-    for bits in 0..subsets(book.size()) {
-        let other = Mask::from_bits(bits);
-        if is_fixpoint(book, other) && !set.is_part_of(other) {
-            return false;
-        }
-    }
-    true
-}
-
-fn is_fixpoint(book: &SmallProtestBook, set: Mask) -> bool {
-    acceptable_to(book, set) == set
+    least(book.size(), |set| acceptable_to(book, set) == set)
 }
 
 // The lodged points each of whose attackers is attacked by the set.
 fn acceptable_to(book: &SmallProtestBook, set: Mask) -> Mask {
     let attacked = attacked_by(book, set);
-    let mut acceptable = Mask::empty();
-    for point in 0..book.size() {
-        if book.lodged().has(point) && attackers(book, point).is_part_of(attacked) {
-            acceptable = acceptable.with(point);
-        }
-    }
-    acceptable
+    book.lodged()
+        .filter(|point| attackers(book, point).is_part_of(attacked))
 }
 
 fn attacked_by(book: &SmallProtestBook, set: Mask) -> Mask {
-    let mut attacked = Mask::empty();
-    for point in 0..book.size() {
-        if book.lodged().has(point) && attackers(book, point).meets(set) {
-            attacked = attacked.with(point);
-        }
-    }
-    attacked
+    book.lodged()
+        .filter(|point| attackers(book, point).meets(set))
 }
 
 // An unlodged protester is no argument and attacks nothing.
 fn attackers(book: &SmallProtestBook, point: u8) -> Mask {
-    book.protesters(point).within(book.lodged())
+    book.reads(point).within(book.lodged())
 }

@@ -1,29 +1,44 @@
 // Sets of at most six points, one bit for each: so few that every set can be tried.
-ghost use Rattle.std.specs.Prelude.{◌<◌};
+ghost use Rattle.std.specs.declared.ops.Range.{Range};
 
 use rulings::Ruling;
 use std::fmt;
+use std::ops::Range;
 
-#[derive(Clone, Copy, PartialEq, Eq)]
+#[derive(Clone, Copy, PartialEq, Eq, Default)]
 pub(crate) struct Mask(u8);
 
-// How many sets there are of the points below a size.
-pub(crate) fn subsets(size: u8) -> u8 {
-    1 << (size & 7)
+// Every set of the points below a size.
+#[derive(Drop)]
+pub(crate) struct Sets(Range<u8>);
+
+impl Iterator for Sets {
+    type Item = Mask;
+
+    ghost remaining = { λ sets. ⟦<Range<u8> as Iterator>⟧.remaining sets.0 };
+
+    fn next(&mut self) -> Option<Mask> {
+        self.0.next().map(Mask)
+    }
 }
 
 impl Mask {
-    pub(crate) fn from_bits(bits: u8) -> Mask {
-        Mask(bits)
-    }
-
     pub(crate) fn empty() -> Mask {
         Mask(0)
     }
 
     // Every point below a size.
     pub(crate) fn all(size: u8) -> Mask {
-        Mask(subsets(size).wrapping_sub(1))
+        Mask((1u8 << (size & 7)).wrapping_sub(1))
+    }
+
+    pub(crate) fn sets(size: u8) -> Sets {
+        Sets(0..1 << (size & 7))
+    }
+
+    // How many sets there are of the points of the set.
+    pub(crate) fn subsets(self) -> usize {
+        1 << (self.0.count_ones() & 7)
     }
 
     pub(crate) fn has(self, point: u8) -> bool {
@@ -36,6 +51,15 @@ impl Mask {
         } else {
             self
         }
+    }
+
+    // The points of the set at which a test holds.
+    pub(crate) fn filter<F: Fn(u8) -> bool>(self, test: F) -> Mask
+        requires { F.IsAlwaysCallable test }
+    {
+        (0..8)
+            .filter(|&point| self.has(point) && test(point))
+            .fold(Mask::empty(), Mask::with)
     }
 
     pub(crate) fn union(self, other: Mask) -> Mask {
@@ -51,8 +75,13 @@ impl Mask {
         Mask(self.0 & !other.0)
     }
 
+    // The points of one and not of the other.
+    pub(crate) fn difference(self, other: Mask) -> Mask {
+        Mask(self.0 ^ other.0)
+    }
+
     pub(crate) fn is_empty(self) -> bool {
-        self.0 == 0
+        self == Mask::empty()
     }
 
     pub(crate) fn is_part_of(self, other: Mask) -> bool {
@@ -63,54 +92,28 @@ impl Mask {
         !self.within(other).is_empty()
     }
 
-    pub(crate) fn count(self) -> u8 {
-        let mut count: u8 = 0;
-        for point in 0..8u8 {
-            if self.has(point) {
-                count = count.wrapping_add(1);
-            }
-        }
-        count
-    }
-
     pub(crate) fn lowest(self) -> Option<u8> {
-        for point in 0..8u8 {
-            if self.has(point) {
-                return Some(point);
-            }
-        }
-        None
+        (0..8).find(|&point| self.has(point))
     }
 
-    // The place of the set in a table with a place for each set of six points.
-    pub(crate) fn place(self) -> usize
-        ensures { result < 64 }
-    {
-        (self.0 & 63) as usize
-    }
-
-    // The set as it is handed to a marker: its points stand in the first byte.
-    pub(crate) fn ruling(self) -> Ruling {
-        let mut bytes = [0; 16];
-        bytes[0] = self.0;
-        Ruling::from_bytes(bytes)
+    // The place of the set among all sets.
+    pub(crate) fn place(self) -> usize {
+        usize::from(self.0)
     }
 }
 
-// The points in braces, as in `{0, 2, 3}`.
+// The set as it is handed to a marker: its points stand in the first byte.
+impl From<Mask> for Ruling {
+    fn from(mask: Mask) -> Ruling {
+        let mut bytes = [0; 16];
+        bytes[0] = mask.0;
+        Ruling::from(bytes)
+    }
+}
+
 impl fmt::Display for Mask {
     fn fmt<W: fmt::Write>(&self, f: &mut fmt::Formatter<W>) -> fmt::Result {
-        write!(f, "{{")?;
-        let mut first = true;
-        for point in 0..8u8 {
-            if self.has(point) {
-                if !first {
-                    write!(f, ", ")?;
-                }
-                write!(f, "{point}")?;
-                first = false;
-            }
-        }
-        write!(f, "}}")
+        let ruling = Ruling::from(*self);
+        write!(f, "{ruling}")
     }
 }

@@ -1,41 +1,33 @@
 // A book read by its chapters: which parts of a ruling are stable, and what a listing costs.
-use crate::definitions::{Finding, Scope, closure, find};
-use crate::masks::{Mask, subsets};
+use crate::definitions::{Scope, closure, verdict};
+use crate::masks::Mask;
 use crate::placements::{CHAPTERS, Placement};
 use crate::small_book::{Case, SmallBook};
-
-// What is found in the lowest chapter whose part is not stable; where there is none, stable and no chapter.
-#[derive(Clone, Copy, PartialEq, Eq)]
-pub(crate) struct PartFinding {
-    pub(crate) finding: Finding,
-    pub(crate) chapter: Option<u8>,
-}
+use crate::tables::Table;
+use answers::{ChapterVerdict, Verdict};
+use rulings::Ruling;
+use std::alloc::{AllocError, Global};
 
 // What is found of each ruling.
-#[derive(Clone, Copy)]
-pub(crate) struct Parts {
-    size: u8,
-    placement: Placement,
-    table: [PartFinding; 64],
+#[derive(Drop)]
+pub(crate) struct Parts<'a> {
+    placement: &'a Placement,
+    verdicts: Table<ChapterVerdict>,
 }
 
-impl Parts {
-    pub(crate) fn of<S: SmallBook>(case: &Case<S>) -> Parts {
-        let size = case.book.size();
-        let mut table = [ALL_STABLE; 64];
-        for bits in 0..subsets(size) {
-            let ruling = Mask::from_bits(bits);
-            table[ruling.place()] = find_lowest(case, ruling);
-        }
-        Parts {
-            size,
-            placement: case.placement,
-            table,
-        }
+impl<'a> Parts<'a> {
+    pub(crate) fn of<S: SmallBook>(
+        heap: Global,
+        case: &'a Case<S>,
+    ) -> Result<Parts<'a>, AllocError> {
+        Ok(Parts {
+            placement: &case.placement,
+            verdicts: Table::of(heap, case.book.size(), |ruling| judge(case, ruling))?,
+        })
     }
 
-    pub(crate) fn finding(&self, ruling: Mask) -> PartFinding {
-        self.table[ruling.place()]
+    pub(crate) fn verdict(&self, ruling: Mask) -> Option<ChapterVerdict> {
+        self.verdicts.get(ruling)
     }
 
     pub(crate) fn are_stable(&self, ruling: Mask) -> bool {
@@ -43,72 +35,61 @@ impl Parts {
     }
 
     fn are_stable_below(&self, ruling: Mask, chapter: u8) -> bool {
-        match self.finding(ruling).chapter {
-            None => true,
-            Some(lowest) => lowest >= chapter,
-        }
+        self.verdict(ruling).is_some_and(|found| found
+            .chapter()
+            .is_none_or(|lowest| lowest >= chapter))
     }
 
-    // How many rulings have all their parts stable.
-    pub(crate) fn count(&self) -> usize {
-        let mut count: usize = 0;
-        for bits in 0..subsets(self.size) {
-            if self.are_stable(Mask::from_bits(bits)) {
-                count = count.wrapping_add(1);
-            }
-        }
-        count
+    // The rulings that have all their parts stable.
+    pub(crate) fn stable(&self, heap: Global) -> Result<Vec<Ruling>, AllocError> {
+        self.verdicts
+            .sets()
+            .filter(|&ruling| self.are_stable(ruling))
+            .map(Ruling::from)
+            .collect(heap)
     }
 
     // The sum over the chapters that hold a point, by counting.
-    pub(crate) fn effort(&self) -> u32 {
-        let mut effort: u32 = 0;
-        for chapter in 0..CHAPTERS {
-            let points = self.placement.points_in(chapter);
-            if !points.is_empty() {
-                let tries = u32::from(subsets(points.count()));
-                effort = effort.wrapping_add(self.ways_below(chapter).wrapping_mul(tries));
-            }
+    pub(crate) fn effort(&self) -> usize {
+        (0..CHAPTERS)
+            .map(|chapter| self.effort_in(chapter))
+            .fold(0, usize::wrapping_add)
+    }
+
+    fn effort_in(&self, chapter: u8) -> usize {
+        let points = self.placement.points(|other| other == chapter);
+        if points.is_empty() {
+            0
+        } else {
+            self.ways_below(chapter).wrapping_mul(points.subsets())
         }
-        effort
     }
 
     // How many rulings of the points below a chapter have all their parts stable there.
-    fn ways_below(&self, chapter: u8) -> u32 {
-        let below = self.placement.points_below(chapter);
-        let mut ways: u32 = 0;
-        for bits in 0..subsets(self.size) {
-            let lower = Mask::from_bits(bits);
-            if lower.is_part_of(below) && self.are_stable_below(lower, chapter) {
-                ways = ways.wrapping_add(1);
-            }
-        }
-        ways
+    fn ways_below(&self, chapter: u8) -> usize {
+        let below = self.placement.points(|other| other < chapter);
+        self.verdicts
+            .sets()
+            .filter(|&lower| lower.is_part_of(below) && self.are_stable_below(lower, chapter))
+            .count()
     }
 }
 
-const ALL_STABLE: PartFinding = PartFinding {
-    finding: Finding::Stable,
-    chapter: None,
-};
-
-fn find_lowest<S: SmallBook>(case: &Case<S>, ruling: Mask) -> PartFinding {
+// What is found in the lowest chapter whose part is not stable; where there is none, stable and no chapter.
+fn judge<S: SmallBook>(case: &Case<S>, ruling: Mask) -> Option<ChapterVerdict> {
     for chapter in 0..CHAPTERS {
-        let finding = find_in(case, ruling, chapter);
-        if finding != Finding::Stable {
-            return PartFinding {
-                finding,
-                chapter: Some(chapter),
-            };
+        let found = judge_in(case, ruling, chapter)?;
+        if found != Verdict::Stable {
+            return Some(ChapterVerdict::new(found, Some(chapter)));
         }
     }
-    ALL_STABLE
+    Some(ChapterVerdict::new(Verdict::Stable, None))
 }
 
 // Compares the part of a ruling in a chapter with its closure there, over the ruling's own part below.
-fn find_in<S: SmallBook>(case: &Case<S>, ruling: Mask, chapter: u8) -> Finding {
-    let points = case.placement.points_in(chapter);
+fn judge_in<S: SmallBook>(case: &Case<S>, ruling: Mask, chapter: u8) -> Option<Verdict> {
+    let points = case.placement.points(|other| other == chapter);
+    let lower = ruling.within(case.placement.points(|other| other < chapter));
     let part = ruling.within(points);
-    let lower = ruling.within(case.placement.points_below(chapter));
-    find(part, closure(case.book, Scope { points, lower }, part))
+    Some(verdict(part, closure(case.book, Scope { points, lower }, part)?))
 }

@@ -1,86 +1,67 @@
 // Small protest books.
 use crate::masks::Mask;
-use crate::small_book::SmallBook;
+use crate::small_book::{POINTS, SmallBook};
 use answers::Fault;
+use arrayvec::ArrayVec;
 use books::Book;
 use marker::Marker;
-use std::alloc::{AllocError, Global};
+use rulings::Ruling;
+use std::fmt;
 
-// The points that are lodged, and for each point its protesters.
-#[derive(Clone, Copy)]
-pub(crate) struct SmallProtestBook {
-    size: u8,
-    lodged: Mask,
-    protesters: [Mask; 6],
-}
+// For each point its protesters, if it is lodged.
+pub(crate) type Lodged = ArrayVec<Option<Mask>, POINTS>;
+
+#[derive(Drop)]
+pub(crate) struct SmallProtestBook(Lodged);
 
 impl SmallProtestBook {
-    // A book with nothing lodged.
-    pub(crate) fn new(size: u8) -> SmallProtestBook {
-        SmallProtestBook {
-            size,
-            lodged: Mask::empty(),
-            protesters: [Mask::empty(); 6],
-        }
-    }
-
-    pub(crate) fn lodge(&mut self, point: u8, protesters: Mask) {
-        if point < 6 {
-            self.lodged = self.lodged.with(point);
-            self.protesters[point as usize] = protesters;
-        }
+    pub(crate) fn new(lodged: Lodged) -> SmallProtestBook {
+        SmallProtestBook(lodged)
     }
 
     pub(crate) fn lodged(&self) -> Mask {
-        self.lodged
+        Mask::all(self.size()).filter(|point| self.protesters(point).is_some())
     }
 
-    pub(crate) fn protesters(&self, point: u8) -> Mask {
-        if point < 6 {
-            self.protesters[point as usize]
-        } else {
-            Mask::empty()
-        }
+    // The protesters of a point, if it is lodged.
+    pub(crate) fn protesters(&self, point: u8) -> Option<Mask> {
+        self.0.get(usize::from(point)).copied().flatten()
     }
 }
 
 impl SmallBook for SmallProtestBook {
     fn size(&self) -> u8 {
-        self.size
+        self.0.len() as u8
     }
 
     // If it is lodged and none of its protesters is in y.
     fn derives(&self, point: u8, _x: Mask, y: Mask) -> bool {
-        self.lodged.has(point) && !self.protesters(point).meets(y)
+        self.protesters(point)
+            .is_some_and(|protesters| !protesters.meets(y))
     }
 
     fn reads(&self, point: u8) -> Mask {
-        if self.lodged.has(point) {
-            self.protesters(point)
-        } else {
-            Mask::empty()
-        }
+        self.protesters(point).unwrap_or_default()
     }
 
     fn enter_into<B: Book>(&self, marker: &mut Marker<B>) -> Result<(), Fault> {
-        for point in 0..self.size {
-            if self.lodged.has(point) {
-                let protesters = self.protesters(point);
-                marker.enter(point, Mask::empty().ruling(), protesters.ruling())?;
+        for point in 0..self.size() {
+            if let Some(protesters) = self.protesters(point) {
+                marker.enter(point, Ruling::empty(), protesters.into())?;
             }
         }
         Ok(())
     }
+}
 
-    fn words(&self, heap: Global) -> Result<String, AllocError> {
-        let size = self.size;
-        let lodged = self.lodged;
-        let mut words = format!(in heap; "protest book of size {size}; lodged {lodged}")?;
-        for point in 0..self.size {
-            let protesters = self.protesters(point);
-            let part = format!(in heap; "; {point} is protested by {protesters}")?;
-            words.push_str(part.as_str())?;
+impl fmt::Display for SmallProtestBook {
+    fn fmt<W: fmt::Write>(&self, f: &mut fmt::Formatter<W>) -> fmt::Result {
+        let (size, lodged) = (self.size(), self.lodged());
+        write!(f, "protest book of size {size}; lodged {lodged}")?;
+        for point in 0..size {
+            let protesters = self.reads(point);
+            write!(f, "; {point} is protested by {protesters}")?;
         }
-        Ok(words)
+        Ok(())
     }
 }

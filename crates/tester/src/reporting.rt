@@ -18,8 +18,15 @@ pub(crate) fn report_all(rt: &HostRuntime, counts: Counts) -> io::Result<()> {
 
 impl fmt::Display for Counts {
     fn fmt<W: fmt::Write>(&self, f: &mut fmt::Formatter<W>) -> fmt::Result {
-        let (books, cases, fitting) = (self.books, self.cases, self.fitting);
-        let (rulings, listed, comparisons) = (self.rulings, self.listed, self.comparisons);
+        let Counts {
+            books,
+            cases,
+            fitting,
+            rulings,
+            listed,
+            comparisons,
+            differences,
+        } = *self;
         write!(
             f,
             "{books} books in {cases} placements, of which {fitting} fit; "
@@ -28,10 +35,10 @@ impl fmt::Display for Counts {
             f,
             "{rulings} rulings judged, {listed} listed; {comparisons} comparisons, "
         )?;
-        match self.differences {
+        match differences {
             0 => write!(f, "no difference"),
             1 => write!(f, "1 difference"),
-            differences => write!(f, "{differences} differences"),
+            _ => write!(f, "{differences} differences"),
         }
     }
 }

@@ -4,7 +4,7 @@ use crate::small_book::SmallBook;
 use answers::Fault;
 use books::Book;
 use marker::Marker;
-use std::alloc::{AllocError, AllocFailed, Global};
+use std::fmt;
 
 // The point stands if all supporters do and no striker does.
 #[derive(Clone, Copy)]
@@ -21,15 +21,8 @@ pub(crate) struct SmallRuleBook {
 }
 
 impl SmallRuleBook {
-    pub(crate) fn new(heap: Global, size: u8) -> SmallRuleBook {
-        SmallRuleBook {
-            size,
-            entries: Vec::new(heap),
-        }
-    }
-
-    pub(crate) fn add(&mut self, entry: SmallEntry) -> Result<(), AllocFailed<SmallEntry>> {
-        self.entries.push(entry)
+    pub(crate) fn new(size: u8, entries: Vec<SmallEntry>) -> SmallRuleBook {
+        SmallRuleBook { size, entries }
     }
 }
 
@@ -40,48 +33,41 @@ impl SmallBook for SmallRuleBook {
 
     // By some entry for the point that has all its supporters in x and none of its strikers in y.
     fn derives(&self, point: u8, x: Mask, y: Mask) -> bool {
-        for entry in self.entries.iter() {
-            if entry.point == point && entry.supporters.is_part_of(x) && !entry.strikers.meets(y) {
-                return true;
-            }
-        }
-        false
+        self.entries.iter().any(|entry| {
+            entry.point == point && entry.supporters.is_part_of(x) && !entry.strikers.meets(y)
+        })
     }
 
     fn reads(&self, point: u8) -> Mask {
-        let mut read = Mask::empty();
-        for entry in self.entries.iter() {
-            if entry.point == point {
-                read = read.union(entry.supporters).union(entry.strikers);
-            }
-        }
-        read
+        self.entries
+            .iter()
+            .filter(|entry| entry.point == point)
+            .map(|entry| entry.supporters.union(entry.strikers))
+            .fold(Mask::empty(), Mask::union)
     }
 
     fn enter_into<B: Book>(&self, marker: &mut Marker<B>) -> Result<(), Fault> {
-        for entry in self.entries.iter() {
-            marker.enter(
-                entry.point,
-                entry.supporters.ruling(),
-                entry.strikers.ruling(),
-            )?;
+        for entry in &self.entries {
+            marker.enter(entry.point, entry.supporters.into(), entry.strikers.into())?;
         }
         Ok(())
     }
+}
 
-    fn words(&self, heap: Global) -> Result<String, AllocError> {
-        let size = self.size;
-        let mut words = format!(in heap; "rule book of size {size}")?;
-        for entry in self.entries.iter() {
-            words.push_str(entry_words(*entry, heap)?.as_str())?;
-        }
-        Ok(words)
+impl fmt::Display for SmallEntry {
+    fn fmt<W: fmt::Write>(&self, f: &mut fmt::Formatter<W>) -> fmt::Result {
+        let (point, supporters, strikers) = (self.point, self.supporters, self.strikers);
+        write!(f, "{point} if all of {supporters} and none of {strikers}")
     }
 }
 
-fn entry_words(entry: SmallEntry, heap: Global) -> Result<String, AllocError> {
-    let point = entry.point;
-    let supporters = entry.supporters;
-    let strikers = entry.strikers;
-    format!(in heap; "; {point} if all of {supporters} and none of {strikers}")
+impl fmt::Display for SmallRuleBook {
+    fn fmt<W: fmt::Write>(&self, f: &mut fmt::Formatter<W>) -> fmt::Result {
+        let size = self.size;
+        write!(f, "rule book of size {size}")?;
+        for entry in &self.entries {
+            write!(f, "; {entry}")?;
+        }
+        Ok(())
+    }
 }

@@ -1,9 +1,9 @@
 // Calls and their answers in words.
-use crate::definitions::Finding;
 use crate::masks::Mask;
-use crate::parts::PartFinding;
-use answers::{Fault, UpwardReading};
+use crate::whole::Model;
+use answers::{ChapterVerdict, Fault, UpwardReading, Verdict};
 use rulings::Ruling;
+use std::alloc::{AllocError, Global};
 use std::fmt;
 
 // What is compared.
@@ -15,32 +15,59 @@ pub(crate) enum Call {
     // whether a ruling is stable in every chapter, beside whether it is stable in the book read whole
     Split(Mask),
     Read,
-    List { lent: usize },
-    ListedRow { lent: usize, row: usize },
+    Rows { of: RowsOf, lent: usize },
+    Row { of: RowsOf, lent: usize, row: usize },
     // whether the rows from one on stay as found
-    ListedLater { lent: usize, row: usize },
-    Audit { lent: usize },
-    AuditedRow { lent: usize, row: usize },
-    AuditedLater { lent: usize, row: usize },
+    Later { of: RowsOf, lent: usize, row: usize },
     StableExtension(Mask),
     GroundedExtension,
 }
 
+// What writes into rows that it is lent.
+#[derive(Clone, Copy)]
+pub(crate) enum RowsOf {
+    Listing,
+    Audit,
+}
+
 // What a call answers, or what the definitions say that it is to answer.
+pub(crate) type Answer = Result<Said, Fault>;
+
+// An answer that is no denial. Where there is no such verdict, model or set, the book breaks its laws.
 #[derive(Clone, Copy, PartialEq, Eq)]
 pub(crate) enum Said {
     Done,
-    Denied(Fault),
-    Judged(Finding),
-    JudgedByChapter(PartFinding),
-    Reading { sure: Ruling, possible: Ruling },
-    Listing { rows: usize, effort: u32 },
-    Row(Ruling),
+    Judged(Option<Verdict>),
+    JudgedByChapter(Option<ChapterVerdict>),
+    Reading(Option<Reading>),
+    Listing { rows: usize, effort: usize },
     Audited(usize),
+    Row(Ruling),
     AuditRow(UpwardReading),
+    Set(Option<Mask>),
     Holds(bool),
-    // there is no such set, or no such row
-    None,
+}
+
+#[derive(Clone, Copy, PartialEq, Eq)]
+pub(crate) struct Reading {
+    pub(crate) sure: Ruling,
+    pub(crate) possible: Ruling,
+}
+
+impl From<Model> for Reading {
+    fn from(model: Model) -> Reading {
+        Reading {
+            sure: model.sure.into(),
+            possible: model.possible.into(),
+        }
+    }
+}
+
+pub(crate) fn words(answer: Answer, heap: Global) -> Result<String, AllocError> {
+    match answer {
+        Ok(said) => format!(in heap; "{said}"),
+        Err(fault) => format!(in heap; "{fault}"),
+    }
 }
 
 impl fmt::Display for Call {
@@ -51,20 +78,19 @@ impl fmt::Display for Call {
             Call::JudgeByChapter(set) => write!(f, "judging {set} by chapter"),
             Call::Split(set) => write!(f, "whether {set} is stable, whole and by chapter"),
             Call::Read => write!(f, "reading"),
-            Call::List { lent } => write!(f, "listing into {lent} rows"),
-            Call::ListedRow { lent, row } => write!(f, "row {row} of a listing into {lent} rows"),
-            Call::ListedLater { lent, row } => {
+            Call::Rows {
+                of: RowsOf::Listing,
+                lent,
+            } => write!(f, "listing into {lent} rows"),
+            Call::Rows {
+                of: RowsOf::Audit,
+                lent,
+            } => write!(f, "auditing into {lent} rows"),
+            Call::Row { of, lent, row } => write!(f, "row {row} of {of} into {lent} rows"),
+            Call::Later { of, lent, row } => {
                 write!(
                     f,
-                    "whether a listing into {lent} rows leaves those from {row} on"
-                )
-            }
-            Call::Audit { lent } => write!(f, "auditing into {lent} rows"),
-            Call::AuditedRow { lent, row } => write!(f, "row {row} of an audit into {lent} rows"),
-            Call::AuditedLater { lent, row } => {
-                write!(
-                    f,
-                    "whether an audit into {lent} rows leaves those from {row} on"
+                    "whether {of} into {lent} rows leaves those from {row} on"
                 )
             }
             Call::StableExtension(set) => write!(f, "whether {set} is a stable extension"),
@@ -73,23 +99,11 @@ impl fmt::Display for Call {
     }
 }
 
-impl fmt::Display for Finding {
+impl fmt::Display for RowsOf {
     fn fmt<W: fmt::Write>(&self, f: &mut fmt::Formatter<W>) -> fmt::Result {
-        match *self {
-            Finding::Stable => write!(f, "stable"),
-            Finding::Unfounded(point) => write!(f, "unfounded at point {point}"),
-            Finding::Missing(point) => write!(f, "missing point {point}"),
-            Finding::NoClosure => write!(f, "without a closure"),
-        }
-    }
-}
-
-impl fmt::Display for PartFinding {
-    fn fmt<W: fmt::Write>(&self, f: &mut fmt::Formatter<W>) -> fmt::Result {
-        let finding = self.finding;
-        match self.chapter {
-            None => write!(f, "{finding} in every chapter"),
-            Some(chapter) => write!(f, "{finding} in chapter {chapter}"),
+        match self {
+            RowsOf::Listing => write!(f, "a listing"),
+            RowsOf::Audit => write!(f, "an audit"),
         }
     }
 }
@@ -98,19 +112,32 @@ impl fmt::Display for Said {
     fn fmt<W: fmt::Write>(&self, f: &mut fmt::Formatter<W>) -> fmt::Result {
         match *self {
             Said::Done => write!(f, "done"),
-            Said::Denied(fault) => write!(f, "{fault}"),
-            Said::Judged(finding) => write!(f, "{finding}"),
-            Said::JudgedByChapter(found) => write!(f, "{found}"),
-            Said::Reading { sure, possible } => write!(f, "sure {sure}, possible {possible}"),
+            Said::Judged(None) | Said::JudgedByChapter(None) => write!(f, "without a closure"),
+            Said::Judged(Some(verdict)) => write!(f, "{verdict}"),
+            Said::JudgedByChapter(Some(judged)) => write_by_chapter(f, judged),
+            Said::Reading(Some(Reading { sure, possible })) => {
+                write!(f, "sure {sure}, possible {possible}")
+            }
             Said::Listing { rows, effort } => write!(f, "{rows} rulings, effort {effort}"),
-            Said::Row(row) => write!(f, "{row}"),
             Said::Audited(rows) => write!(f, "{rows} upward readings"),
-            Said::AuditRow(row) => {
-                let (drop, reader, read) = (row.drop, row.reader, row.read);
+            Said::Row(row) => write!(f, "{row}"),
+            Said::AuditRow(UpwardReading { drop, reader, read }) => {
                 write!(f, "drop {drop}, {reader} reads {read}")
             }
+            Said::Set(Some(set)) => write!(f, "{set}"),
+            Said::Reading(None) | Said::Set(None) => write!(f, "none"),
             Said::Holds(holds) => write!(f, "{holds}"),
-            Said::None => write!(f, "none"),
         }
+    }
+}
+
+fn write_by_chapter<W: fmt::Write>(
+    f: &mut fmt::Formatter<W>,
+    judged: ChapterVerdict,
+) -> fmt::Result {
+    let verdict = judged.verdict();
+    match judged.chapter() {
+        None => write!(f, "{verdict} in every chapter"),
+        Some(chapter) => write!(f, "{verdict} in chapter {chapter}"),
     }
 }

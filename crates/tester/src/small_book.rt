@@ -4,9 +4,12 @@ use crate::placements::Placement;
 use answers::Fault;
 use books::Book;
 use marker::Marker;
-use std::alloc::{AllocError, Global};
+use std::fmt;
 
-pub(crate) trait SmallBook {
+// How many points a small book has at most.
+pub(crate) const POINTS: usize = 6;
+
+pub(crate) trait SmallBook: fmt::Display {
     fn size(&self) -> u8;
 
     // Whether the point derives under the pair (x, y).
@@ -17,9 +20,6 @@ pub(crate) trait SmallBook {
 
     // Enters all of the book into a marker that was just opened.
     fn enter_into<B: Book>(&self, marker: &mut Marker<B>) -> Result<(), Fault>;
-
-    // The book in words.
-    fn words(&self, heap: Global) -> Result<String, AllocError>;
 }
 
 // A small book with a chapter for each of its points: what a marker is given.
@@ -27,6 +27,13 @@ pub(crate) trait SmallBook {
 pub(crate) struct Case<'a, S> {
     pub(crate) book: &'a S,
     pub(crate) placement: Placement,
+}
+
+impl<S: SmallBook> fmt::Display for Case<'_, S> {
+    fn fmt<W: fmt::Write>(&self, f: &mut fmt::Formatter<W>) -> fmt::Result {
+        let (book, placement) = (self.book, &self.placement);
+        write!(f, "{book}; {placement}")
+    }
 }
 
 impl<S: SmallBook> Case<'_, S> {

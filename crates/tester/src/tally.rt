@@ -1,12 +1,13 @@
 // What was compared, and what differed.
-use crate::saying::{Call, Said};
+use crate::saying::{Answer, Call, words};
 use crate::small_book::{Case, SmallBook};
 use std::alloc::{AllocError, Global};
+use std::ops::Add;
 
 // How many differences are told in full; later ones are only counted.
 const TOLD: usize = 10;
 
-#[derive(Clone, Copy)]
+#[derive(Clone, Copy, Default)]
 pub(crate) struct Counts {
     pub(crate) books: u64,
     // books in a placement
@@ -28,20 +29,10 @@ pub(crate) struct Tally {
     told: Vec<String>,
 }
 
-impl Counts {
-    pub(crate) fn none() -> Counts {
-        Counts {
-            books: 0,
-            cases: 0,
-            fitting: 0,
-            rulings: 0,
-            listed: 0,
-            comparisons: 0,
-            differences: 0,
-        }
-    }
+impl Add for Counts {
+    type Output = Counts;
 
-    pub(crate) fn plus(self, other: Counts) -> Counts {
+    fn add(self, other: Counts) -> Counts {
         Counts {
             books: self.books.saturating_add(other.books),
             cases: self.cases.saturating_add(other.cases),
@@ -58,7 +49,7 @@ impl Tally {
     pub(crate) fn new(heap: Global) -> Tally {
         Tally {
             heap,
-            counts: Counts::none(),
+            counts: Counts::default(),
             told: Vec::new(heap),
         }
     }
@@ -98,8 +89,8 @@ impl Tally {
         &mut self,
         case: &Case<S>,
         call: Call,
-        expected: Said,
-        found: Said,
+        expected: Answer,
+        found: Answer,
     ) -> Result<(), AllocError> {
         self.counts.comparisons = self.counts.comparisons.saturating_add(1);
         if expected == found {
@@ -107,10 +98,10 @@ impl Tally {
         }
         self.counts.differences = self.counts.differences.saturating_add(1);
         if self.told.len() < TOLD {
-            let words = case.book.words(self.heap)?;
-            let placement = case.placement;
+            let expected = words(expected, self.heap)?;
+            let found = words(found, self.heap)?;
             self.told.push(format!(in self.heap;
-                "{words}; {placement}: {call}: expected {expected}, found {found}"
+                "{case}: {call}: expected {expected}, found {found}"
             )?)?;
         }
         Ok(())

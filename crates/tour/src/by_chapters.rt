@@ -1,11 +1,11 @@
 // The example book by chapters: judged, read and audited.
-use crate::{rules, say};
 use answers::UpwardReading;
 use books::RuleBook;
 use marker::Marker;
 use std::io;
+use telling::{open_example, say};
 
-pub(crate) fn judge(rt: &HostRuntime) -> io::Result<()> {
+pub(crate) fn judge(rt: &impl Print) -> io::Result<()> {
     say::title(rt, "The example book in three chapters")?;
     let marker = in_chapters(rt, 1, 2)?;
     say::title(rt, "Judging the same rulings a chapter at a time")?;
@@ -15,7 +15,7 @@ pub(crate) fn judge(rt: &HostRuntime) -> io::Result<()> {
     say::judge_by_chapter(rt, &marker, &[0, 1])
 }
 
-pub(crate) fn read(rt: &HostRuntime) -> io::Result<()> {
+pub(crate) fn read(rt: &impl Print) -> io::Result<()> {
     say::title(
         rt,
         "Reading the example book: 0 and 1 strike each other, so nothing is sure",
@@ -24,38 +24,30 @@ pub(crate) fn read(rt: &HostRuntime) -> io::Result<()> {
     say::read(rt, &marker)
 }
 
-pub(crate) fn audit(rt: &HostRuntime) -> io::Result<()> {
+pub(crate) fn audit(rt: &impl Print) -> io::Result<()> {
     say::title(
         rt,
         "The chapters of 2 and 3 exchanged: 3 reads 2, now in a higher chapter",
     )?;
     let marker = in_chapters(rt, 2, 1)?;
     say::read(rt, &marker)?;
-    let mut rows = [UpwardReading {
-        drop: 0,
-        reader: 0,
-        read: 0,
-    }; 4];
-    match marker.audit(&mut rows) {
-        Err(fault) => println!(rt; "  {fault}"),
-        Ok(count) => {
-            println!(rt; "  upward readings: {count}")?;
-            for row in rows.iter().take(count) {
-                let reader = row.reader;
-                let read = row.read;
-                let drop = row.drop;
-                println!(rt; "  point {reader} reads point {read}, {drop} chapter up")?;
-            }
-            Ok(())
-        }
+    let mut rows = [UpwardReading::default(); 4];
+    let count = match marker.audit(&mut rows) {
+        Ok(count) => count,
+        Err(fault) => return println!(rt; "  {fault}"),
+    };
+    println!(rt; "  upward readings: {count}")?;
+    for UpwardReading { drop, reader, read } in rows.iter().take(count) {
+        println!(rt; "  point {reader} reads point {read}, {drop} chapter up")?;
     }
+    Ok(())
 }
 
 // The example book with points 2 and 3 in the chapters given.
-fn in_chapters(rt: &HostRuntime, of_2: u8, of_3: u8) -> io::Result<Marker<RuleBook>> {
+fn in_chapters(rt: &impl Print, of_2: u8, of_3: u8) -> io::Result<Marker<RuleBook>> {
     let mut marker = Marker::new(RuleBook::new());
-    say::outcome(rt, "the example book", rules::refill(&mut marker))?;
-    say::place(rt, &mut marker, 2, of_2)?;
-    say::place(rt, &mut marker, 3, of_3)?;
+    say::outcome(rt, "the example book", open_example(&mut marker))?;
+    say::placed(rt, 2, of_2, marker.place(2, of_2))?;
+    say::placed(rt, 3, of_3, marker.place(3, of_3))?;
     Ok(marker)
 }

@@ -4,7 +4,6 @@
 mod by_chapters;
 mod protests;
 mod rules;
-mod say;
 
 use std::io;
 

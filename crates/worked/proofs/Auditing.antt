@@ -1,6 +1,7 @@
 -- Upward readings by computing.
 use Rattle.std.proofs.Common.{◌≡◌, ℕ, ◌-◌, ◌<◌, Bool, true, not, ◌&&◌, ◌||◌, eqb, List, length, take, drop, Ok, Err, Result, sym, refl, ap, ◌∙◌, subst, ap₂, subst₂, inl, inr, arith, eqb-true}
-use Rattle.std.specs.List.{ContainsAt}
+use Rattle.std.proofs.lemmas.Bool.{not-true}
+use Rattle.std.specs.List.{ContainsAt, list_all, list_any}
 use Rattle.std.proofs.lemmas.List.{length-take}
 use Rattle.rows.specs.Rows.{StrictlyInOrder}
 use Rattle.rows.proofs.Same.{same_rows}
@@ -14,15 +15,14 @@ use Rattle.answers.specs.declared.audit.UpwardReading.{UpwardReading}
 use Rattle.answers.specs.Faults.{fault_of}
 use Rattle.answers.specs.AuditRows.{AuditedBefore}
 use Rattle.answers.specs.AuditOrder.{audit_order}
-use Rattle.books.specs.Entries.{any, every_below}
-use Rattle.books.specs.Any.{any_has}
+use Rattle.books.specs.Entries.{every_below}
 use Rattle.books.specs.EntriesLemmas.{every_below_use}
 use Rattle.chapters.specs.Fitting.{upward, UpwardDenied}
 use Rattle.marker.specs.Listing.{Listed}
 use Rattle.marker.specs.Audit.{reading_row, AllUpward, Audited}
 use Rattle.worked.specs.Answers.{RefusesListing, Audits}
 use Rattle.worked.proofs.Once.{upward_once, fitting}
-use Rattle.worked.proofs.Checks.{of_not, all, all_use}
+use Rattle.worked.proofs.Checks.{all_use, any_has}
 
 module _ (m : Meaning) (ch : ℕ → ℕ) where
   upward_inside : Lawful m → (a b : ℕ) → upward m ch a b ≡ true → (a < m.size) × (b < m.size)
@@ -47,11 +47,11 @@ module _ (m : Meaning) (ch : ℕ → ℕ) where
               refl,
               (
                 p.0,
-                λ d i. of_not (upward m ch a d) (every_below_use b (λ e. not (upward m ch a e)) q.0 d i),
+                λ d i. not-true (upward m ch a d) (every_below_use b (λ e. not (upward m ch a e)) q.0 d i),
                 λ c d i. not_true (upward m ch c d) (λ u.
                     let inside = upward_inside l c d u in
                     let none = every_below_use a (λ e. every_below m.size (λ f. not (upward m ch e f))) q.1 c i in
-                    false_is_not_true (sym (of_not (upward m ch c d) (every_below_use m.size (λ f. not (upward m ch c f)) none d inside.1)) ∙ u)),
+                    false_is_not_true (sym (not-true (upward m ch c d) (every_below_use m.size (λ f. not (upward m ch c f)) none d inside.1)) ∙ u)),
               ),
             )
 
@@ -73,14 +73,14 @@ module _ (m : Meaning) (ch : ℕ → ℕ) where
     -- the rows are all upward readings
     abbrev pub audit_check : Bool
     audit_check =
-        all is_upward rows && every_below m.size (λ a. every_below m.size (λ b. not (upward m ch a b) || any (is_row a b) rows))
+        list_all is_upward rows && every_below m.size (λ a. every_below m.size (λ b. not (upward m ch a b) || list_any (is_row a b) rows))
 
     pub audits : Lawful m → StrictlyInOrder AuditedBefore rows → audit_check ≡ true → Audits m ch rows
     unfolding Audits
     audits l ordered h found left room long r = (only_answer r, there)
       where
-        each_upward : all is_upward rows ≡ true
-        each_upward = (and_both (all is_upward rows) _ h).0
+        each_upward : list_all is_upward rows ≡ true
+        each_upward = (and_both (list_all is_upward rows) _ h).0
 
         row_is : (r : UpwardReading) → is_upward r ≡ true → r ≡ reading_row ch r.reader r.read
         row_is r e =
@@ -95,8 +95,8 @@ module _ (m : Meaning) (ch : ℕ → ℕ) where
         each : (a b : ℕ) → upward m ch a b ≡ true → ContainsAt rows (reading_row ch a b)
         each a b u =
             let i = upward_inside l a b u in
-            let c = every_below_use m.size (λ e. every_below m.size (λ f. not (upward m ch e f) || any (is_row e f) rows)) (and_both (all is_upward rows) _ h).1 a i.0 in
-            let d = every_below_use m.size (λ f. not (upward m ch a f) || any (is_row a f) rows) c b i.1 in
+            let c = every_below_use m.size (λ e. every_below m.size (λ f. not (upward m ch e f) || list_any (is_row e f) rows)) (and_both (list_all is_upward rows) _ h).1 a i.0 in
+            let d = every_below_use m.size (λ f. not (upward m ch a f) || list_any (is_row a f) rows) c b i.1 in
             let (r, there, e) = any_has (is_row a b) rows (implies_use _ _ d u) in
             let q = and_both (eqb r.reader a) (eqb r.read b) e in
             subst (ContainsAt rows)

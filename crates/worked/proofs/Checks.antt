@@ -1,47 +1,42 @@
 -- Checks that compute, and what they say.
-use Rattle.std.proofs.Common.{◌≡◌, ℕ, zero, suc, ◌<◌, Bool, true, false, not, ◌&&◌, ◌||◌, eqb, ltb, leb, ◌⊎◌, List, [], ◌∷◌, sym, refl, ◌∙◌, subst, inl, inr, arith, ltb-true, eq-eqb, eqb-true, leb-true}
+use Rattle.std.proofs.Common.{◌≡◌, ℕ, zero, suc, ◌<◌, Bool, true, not, ◌||◌, eqb, ltb, leb, ◌⊎◌, List, [], ◌∷◌, sym, refl, ◌∙◌, subst, inl, inr, arith, ltb-true, eq-eqb, eqb-true, leb-true}
 use mathlib.Core.Path.{fun_ext}
-use Rattle.std.specs.List.{ContainsAt}
+use Rattle.std.specs.List.{ContainsAt, list_all, list_any}
 use Rattle.std.proofs.lemmas.Bool.{cases_lt}
+use Rattle.std.proofs.lemmas.List.Sums.{AllPass-from_list_all}
+use Rattle.std.proofs.lemmas.List.Folds.{Any-from_list_any}
+use Rattle.std.proofs.lemmas.List.Elements.{All-contains, Contains-from_at, at_from_Contains}
 use Rattle.rulings.specs.Points.{Points, Part, listed}
 use Rattle.semantics.specs.Meaning.{Meaning, Lawful}
 use Rattle.semantics.specs.Closure.{IsClosure}
 use Rattle.semantics.specs.Chapters.{Fit, Sixteen}
 use Rattle.semantics.proofs.Tests.{false_is_not_true, and_both, and_of, or_split, or_left, or_right, not_true, implies_use}
-use Rattle.semantics.proofs.Joined.{has_none, has_cases}
 use Rattle.semantics.proofs.Closures.{closure, is_closure, closure_inside}
 use Rattle.semantics.proofs.StableTest.{agree_below, agree_at}
 use Rattle.books.specs.Entries.{every_below}
 use Rattle.books.specs.EntriesLemmas.{every_below_use}
 use Rattle.worked.specs.Books.{chapters}
 
-pub of_not : (s : Bool) → not s ≡ true → s ≡ false
-of_not true h = false_is_not_true h
-of_not false h = refl
+-- what a test of every element says of one, and an element that a test finds
+module _ {X : Type 0} (test : X → Bool) (xs : List X) where
+  pub all_use : list_all test xs ≡ true → (x : X) → ContainsAt xs x → test x ≡ true
+  all_use h x q = All-contains (λ y. test y ≡ true) xs x (AllPass-from_list_all test xs h) (Contains-from_at xs x q)
 
--- every element passes
-abbrev pub all : {X : Type 0} → (X → Bool) → List X → Bool
-all test [] = true
-all test (x ∷ xs) = test x && all test xs
-
-pub all_use : {X : Type 0} (test : X → Bool) (xs : List X) → all test xs ≡ true → (x : X) → ContainsAt xs x → test x ≡ true
-all_use test [] h x q = absurd (has_none x q)
-all_use {X} test (y ∷ ys) h x q = go (and_both _ _ h) (has_cases ys y x q) (all_use test ys)
-  where
-    go : (test y ≡ true) × (all test ys ≡ true) → (y ≡ x) ⊎ ContainsAt ys x → (all test ys ≡ true → (x : X) → ContainsAt ys x → test x ≡ true) → test x ≡ true
-    go p (inl e) ih = subst (λ (z : X). test z ≡ true) e p.0
-    go p (inr there) ih = ih p.1 x there
+  pub any_has : list_any test xs ≡ true → (x : X) × ContainsAt xs x × (test x ≡ true)
+  any_has h =
+      let (k, x, low, at, t) = Any-from_list_any test xs h in
+      (x, at_from_Contains xs x (k, low, at), t)
 
 -- of the points of a list
-pub all_listed : (x : Points) (ps : List ℕ) → all x ps ≡ true → Part (listed ps) x
+pub all_listed : (x : Points) (ps : List ℕ) → list_all x ps ≡ true → Part (listed ps) x
 all_listed x [] h b q = false_is_not_true q
 all_listed x (p ∷ ps) h b q = go (and_both _ _ h) (or_split (eqb b p) (listed ps b) q) (all_listed x ps)
   where
-    go : (x p ≡ true) × (all x ps ≡ true) → (eqb b p ≡ true) ⊎ (listed ps b ≡ true) → (all x ps ≡ true → Part (listed ps) x) → x b ≡ true
+    go : (x p ≡ true) × (list_all x ps ≡ true) → (eqb b p ≡ true) ⊎ (listed ps b ≡ true) → (list_all x ps ≡ true → Part (listed ps) x) → x b ≡ true
     go r (inl e) ih = subst (λ (c : ℕ). x c ≡ true) (sym (eqb-true b p e)) r.0
     go r (inr l) ih = ih r.1 b l
 
-pub listed_all : (x : Points) (ps : List ℕ) → Part (listed ps) x → all x ps ≡ true
+pub listed_all : (x : Points) (ps : List ℕ) → Part (listed ps) x → list_all x ps ≡ true
 listed_all x [] h = refl
 listed_all x (p ∷ ps) h =
     and_of _ _ (h p (or_left (eqb p p) (listed ps p) (eq-eqb p p refl)))
@@ -52,7 +47,7 @@ abbrev pub Within : ℕ → Points → Type 0
 Within n x = (a : ℕ) → x a ≡ true → a < n
 
 abbrev pub within : ℕ → List ℕ → Bool
-within n ps = all (λ b. ltb b n) ps
+within n ps = list_all (λ b. ltb b n) ps
 
 pub within_use : (n : ℕ) (ps : List ℕ) → within n ps ≡ true → Within n (listed ps)
 within_use n ps h a q = ltb-true a n (all_listed (λ b. ltb b n) ps h a q)
@@ -76,7 +71,7 @@ closes_use m l y X p h =
     (is_closure m l y)
 
 -- the chapters are below 16
-pub sixteen_use : (ks : List ℕ) → all (λ k. ltb k 16) ks ≡ true → Sixteen (chapters ks)
+pub sixteen_use : (ks : List ℕ) → list_all (λ k. ltb k 16) ks ≡ true → Sixteen (chapters ks)
 sixteen_use [] h a = omega arith
 sixteen_use (k ∷ ks) h zero = ltb-true k 16 (and_both _ _ h).0
 sixteen_use (k ∷ ks) h (suc a) = sixteen_use ks (and_both (ltb k 16) _ h).1 a

@@ -1,7 +1,7 @@
 -- Verdicts by computing.
 use Rattle.std.proofs.Common.{◌≡◌, ℕ, Bool, true, false, not, ◌&&◌, ltb, leb, List, Some, None, Ok, Err, Option, Result, sym, refl, ap, ◌∙◌, subst, ap₂, inl, inr, arith, ltb-true, leb-true}
 use mathlib.Core.Bool.{xor}
-use Rattle.std.proofs.lemmas.Bool.{cases_order}
+use Rattle.std.proofs.lemmas.Bool.{cases_order, not-true}
 use Rattle.rulings.specs.Points.{Points, Lowest, listed}
 use Rattle.rulings.specs.Rulings.{has}
 use Rattle.semantics.specs.Meaning.{Meaning, Lawful}
@@ -23,7 +23,7 @@ use Rattle.marker.specs.Judging.{Compares, Judged, PartVerdict, ByChapter, Judge
 use Rattle.marker.proofs.Verdicts.{unstable, stable_verdict}
 use Rattle.worked.specs.Answers.{Judges, JudgesByChapter}
 use Rattle.worked.proofs.Once.{fitting, verdict_once}
-use Rattle.worked.proofs.Checks.{of_not, Within, within, within_use, closes, closes_use, fits, fits_use}
+use Rattle.worked.proofs.Checks.{Within, within, within_use, closes, closes_use, fits, fits_use}
 
 -- a is the lowest point on which the two sets differ
 abbrev pub differ_first : Points → Points → ℕ → Bool
@@ -32,7 +32,7 @@ differ_first y X a = xor (y a) (X a) && every_below a (λ b. not (xor (y b) (X b
 differ_first_use : (y X : Points) (a : ℕ) → differ_first y X a ≡ true → Lowest (λ b. xor (y b) (X b)) (Some a)
 differ_first_use y X a h =
     let p = and_both (xor (y a) (X a)) _ h in
-    (p.0, λ b l. of_not (xor (y b) (X b)) (every_below_use a (λ c. not (xor (y c) (X c))) p.1 b l))
+    (p.0, λ b l. not-true (xor (y b) (X b)) (every_below_use a (λ c. not (xor (y c) (X c))) p.1 b l))
 
 -- the verdict, other than stable, on y beside its closure X
 abbrev pub compares : Points → Points → Verdict → Bool

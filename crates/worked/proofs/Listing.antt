@@ -1,6 +1,6 @@
 -- Listings by computing the walk.
 use Rattle.std.proofs.Common.{◌≡◌, ℕ, zero, suc, ◌+◌, ◌^◌, ◌<◌, ◌≤◌, Bool, true, false, cond, ◌&&◌, eqb, ltb, leb, List, [], ◌∷◌, map, length, take, drop, Ok, Err, Result, sym, refl, ap, ◌∙◌, subst, ap₂, inl, inr, arith, ltb-true, eqb-true, leb-true}
-use Rattle.std.specs.List.{ContainsAt, AllByRecursion}
+use Rattle.std.specs.List.{ContainsAt, AllByRecursion, list_all, list_any}
 use Rattle.std.proofs.lemmas.List.{length-map, length-take}
 use Rattle.rulings.specs.Points.{Points, listed}
 use Rattle.rulings.specs.Rulings.{digit, byte, has}
@@ -20,14 +20,12 @@ use Rattle.semantics.proofs.RulingOf.{ruling_of, ruling_of_has, ruling_of_same}
 use Rattle.semantics.proofs.StableTest.{agree_below, agree_at, stable_test, stable_test_tells}
 use Rattle.semantics.proofs.Ways.{map_has, has_map, listing_of, effort_unique}
 use Rattle.semantics.proofs.Walk.{walk_completes, walk_effort}
-use Rattle.books.specs.Entries.{any}
-use Rattle.books.specs.Any.{any_has}
 use Rattle.answers.specs.declared.fault.Fault.{Fault}
 use Rattle.answers.specs.declared.listing.Listing.{Listing}
 use Rattle.marker.specs.Listing.{NoneWide, Listed}
 use Rattle.worked.specs.Answers.{Lists}
 use Rattle.worked.proofs.Once.{fitting, same_listing, same_rulings}
-use Rattle.worked.proofs.Checks.{all, all_use, Within, within, within_use, agree_all, fits, fits_use}
+use Rattle.worked.proofs.Checks.{all_use, any_has, Within, within, within_use, agree_all, fits, fits_use}
 
 -- ---- rows of points below 8: the first byte tells the order
 
@@ -64,26 +62,26 @@ row_precedes s t p q h =
 -- the sets are in row order
 abbrev pub rise : List (List ℕ) → Bool
 rise [] = true
-rise (s ∷ ss) = all (λ t. ltb (worth s) (worth t)) ss && rise ss
+rise (s ∷ ss) = list_all (λ t. ltb (worth s) (worth t)) ss && rise ss
 
-rise_use : (sets : List (List ℕ)) → all byte_fits sets ≡ true → rise sets ≡ true → Pairwise Precedes (map row sets)
+rise_use : (sets : List (List ℕ)) → list_all byte_fits sets ≡ true → rise sets ≡ true → Pairwise Precedes (map row sets)
 rise_use [] b h = tt
 rise_use (s ∷ ss) b h =
-    let p = and_both (byte_fits s) (all byte_fits ss) b in
-    let q = and_both (all (λ t. ltb (worth s) (worth t)) ss) (rise ss) h in
+    let p = and_both (byte_fits s) (list_all byte_fits ss) b in
+    let q = and_both (list_all (λ t. ltb (worth s) (worth t)) ss) (rise ss) h in
     (later p.0 ss p.1 q.0, rise_use ss p.1 q.1)
   where
-    later : byte_fits s ≡ true → (ts : List (List ℕ)) → all byte_fits ts ≡ true → all (λ t. ltb (worth s) (worth t)) ts ≡ true → AllByRecursion (Precedes (row s)) (map row ts)
+    later : byte_fits s ≡ true → (ts : List (List ℕ)) → list_all byte_fits ts ≡ true → list_all (λ t. ltb (worth s) (worth t)) ts ≡ true → AllByRecursion (Precedes (row s)) (map row ts)
     later f [] c e = tt
     later f (t ∷ ts) c e =
-        let p = and_both (byte_fits t) (all byte_fits ts) c in
+        let p = and_both (byte_fits t) (list_all byte_fits ts) c in
         let q = and_both (ltb (worth s) (worth t)) _ e in
         (row_precedes s t f p.0 q.0, later f ts p.1 q.1)
 
-rows_are : (n : ℕ) → n ≤ 128 → (sets : List (List ℕ)) → all (within n) sets ≡ true → map has (map row sets) ≡ map listed sets
+rows_are : (n : ℕ) → n ≤ 128 → (sets : List (List ℕ)) → list_all (within n) sets ≡ true → map has (map row sets) ≡ map listed sets
 rows_are n few [] h = refl
 rows_are n few (s ∷ ss) h =
-    let p = and_both (within n s) (all (within n) ss) h in
+    let p = and_both (within n s) (list_all (within n) ss) h in
     ap₂ ◌∷◌ (ruling_of_same (listed s) (λ a e. let i = within_use n s p.0 a e in omega arith)) (rows_are n few ss p.1)
 
 count_few : (n : ℕ) (x : Points) → count_below n x ≤ n
@@ -109,8 +107,8 @@ module _ (m : Meaning) (ch : ℕ → ℕ) where
     abbrev pub list_check : Bool
     list_check =
         fits m ch && (leb m.size 8 && (leb effort 65536 && (eqb (length (walk m ch (stable_test m ch))) effort &&
-        (all (within m.size) sets && (all byte_fits sets && (rise sets &&
-        (all (λ x. any (is_set x) sets) computed && all (λ s. any (λ x. is_set x s) computed) sets)))))))
+        (list_all (within m.size) sets && (list_all byte_fits sets && (rise sets &&
+        (list_all (λ x. list_any (is_set x) sets) computed && list_all (λ s. list_any (λ x. is_set x s) computed) sets)))))))
 
     -- the same, one by one
     record ListChecked : Type 0 where
@@ -118,11 +116,11 @@ module _ (m : Meaning) (ch : ℕ → ℕ) where
       small : leb m.size 8 ≡ true
       low : leb effort 65536 ≡ true
       tries : eqb (length (walk m ch (stable_test m ch))) effort ≡ true
-      inside : all (within m.size) sets ≡ true
-      bytes : all byte_fits sets ≡ true
+      inside : list_all (within m.size) sets ≡ true
+      bytes : list_all byte_fits sets ≡ true
       rising : rise sets ≡ true
-      only : all (λ x. any (is_set x) sets) computed ≡ true
-      each : all (λ s. any (λ x. is_set x s) computed) sets ≡ true
+      only : list_all (λ x. list_any (is_set x) sets) computed ≡ true
+      each : list_all (λ s. list_any (λ x. is_set x s) computed) sets ≡ true
 
     list_checked : list_check ≡ true → ListChecked
     list_checked h =
@@ -130,10 +128,10 @@ module _ (m : Meaning) (ch : ℕ → ℕ) where
         let p2 = and_both (leb m.size 8) _ p1.1 in
         let p3 = and_both (leb effort 65536) _ p2.1 in
         let p4 = and_both (eqb (length (walk m ch (stable_test m ch))) effort) _ p3.1 in
-        let p5 = and_both (all (within m.size) sets) _ p4.1 in
-        let p6 = and_both (all byte_fits sets) _ p5.1 in
+        let p5 = and_both (list_all (within m.size) sets) _ p4.1 in
+        let p6 = and_both (list_all byte_fits sets) _ p5.1 in
         let p7 = and_both (rise sets) _ p6.1 in
-        let p8 = and_both (all (λ x. any (is_set x) sets) computed) _ p7.1 in
+        let p8 = and_both (list_all (λ x. list_any (is_set x) sets) computed) _ p7.1 in
         record {
           fit = p1.0;
           small = p2.0;
@@ -182,10 +180,10 @@ module _ (m : Meaning) (ch : ℕ → ℕ) where
             (to_places Precedes (map row sets) (rise_use sets c.bytes c.rising))
             (λ r q.
             let (s, there, e) = map_has row sets r q in
-            let (x, hx, f) = any_has (λ y. is_set y s) computed (all_use (λ t. any (λ y. is_set y t) computed) sets c.each s there) in
+            let (x, hx, f) = any_has (λ y. is_set y s) computed (all_use (λ t. list_any (λ y. is_set y t) computed) sets c.each s there) in
             subst (ContainsAt computed) (sym (set_is x s hx there f) ∙ ap has e) hx)
             (λ x hx.
-            let (s, there, f) = any_has (is_set x) sets (all_use (λ y. any (is_set y) sets) computed c.only x hx) in
+            let (s, there, f) = any_has (is_set x) sets (all_use (λ y. list_any (is_set y) sets) computed c.only x hx) in
             (row s, has_map row sets s there, set_is x s hx there f))
 
         answer : ℕ → ℕ → Result Listing Fault

@@ -1,4 +1,5 @@
 -- The worked books, each by its check.
+use Rattle.std.specs.List.{list_all}
 use Rattle.std.proofs.Common.{◌≡◌, ℕ, true, ltb, List, [], ◌∷◌, refl, arith}
 use mathlib.Core.Bool.{xor}
 use Rattle.semantics.specs.Meaning.{Meaning, Lawful}
@@ -14,7 +15,7 @@ use Rattle.books.specs.Entries.{every_below}
 use Rattle.worked.specs.Books.{Line, OfRules, OfProtests, chapters}
 use Rattle.worked.specs.Answers.{Lists, RefusesListing, Reads, Judges, JudgesByChapter, Audits}
 use Rattle.worked.specs.Worked.{Worked}
-use Rattle.worked.proofs.Checks.{all, sixteen_use}
+use Rattle.worked.proofs.Checks.{sixteen_use}
 use Rattle.worked.proofs.Written.{by_lines, of_rules, by_protests, of_protests}
 use Rattle.worked.proofs.Standing.{rules_inside, some_rules, protests_inside, some_protests, tables_place}
 use Rattle.worked.proofs.Judging.{judge_check, judges, chapter_check, judges_by_chapter}
@@ -48,7 +49,7 @@ module _ (n : ℕ) (ls : List Line) (inside : rules_inside n ls ≡ true) where
         rules (λ m. Audits m (chapters ks) (r ∷ []))
         (λ l. audits (by_lines n ls) (chapters ks) (r ∷ []) l (λ i j d p q. absurd (omega arith)) h)
 
-    module _ (few : all (λ k. ltb k 16) ks ≡ true) where
+    module _ (few : list_all (λ k. ltb k 16) ks ≡ true) where
       list_rules : (sets : List (List ℕ)) (effort : ℕ) → list_check (by_lines n ls) (chapters ks) sets effort ≡ true →
           OfRules n ls (λ m. Lists m (chapters ks) sets effort)
       list_rules sets effort h =
@@ -60,7 +61,7 @@ module _ (n : ℕ) (ls : List Line) (inside : rules_inside n ls ≡ true) where
           rules (λ m. Reads m (chapters ks) (climbed [] turns) possible)
           (λ l. reads (by_lines n ls) (chapters ks) turns possible l (sixteen_use ks few) h)
 
-module _ (n : ℕ) (points : List ℕ) (pairs : List (ℕ × ℕ)) (inside : protests_inside n points pairs ≡ true) (ks : List ℕ) (few : all (λ k. ltb k 16) ks ≡ true) where
+module _ (n : ℕ) (points : List ℕ) (pairs : List (ℕ × ℕ)) (inside : protests_inside n points pairs ≡ true) (ks : List ℕ) (few : list_all (λ k. ltb k 16) ks ≡ true) where
   protests : (So : Meaning → Type 0) → (Lawful (by_protests n points pairs) → So (by_protests n points pairs)) → OfProtests n points pairs So
   protests So h = record { some_book = some_protests n points pairs inside; each_book = of_protests n points pairs So h }
 

@@ -1,8 +1,12 @@
 -- There are books that are so written, and tables of chapters.
-use Rattle.std.proofs.Common.{◌≡◌, ℕ, ◌-◌, ◌<◌, ◌≤◌, Bool, true, false, cond, ◌&&◌, eqb, ltb, leb, ◌⊎◌, List, [], ◌∷◌, ◌++◌, map, length, get_or, replicate, sym, refl, ap, ◌∙◌, subst, inl, inr, arith, ltb-true, le-ltb, lt-ltb, eqb-true, leb-true}
+use Rattle.std.specs.List.{list_all}
+use Rattle.std.proofs.Common.{◌≡◌, ℕ, ◌-◌, ◌<◌, ◌≤◌, Bool, true, false, cond, ◌&&◌, eqb, ltb, leb, ◌⊎◌, List, [], ◌∷◌, ◌++◌, map, length, get_or, slice_index_or, Option, Some, None, is_some, replicate, sym, refl, ap, ◌∙◌, inl, inr, arith, ltb-true, le-ltb, lt-ltb, eqb-true, leb-true}
 use mathlib.Core.Path.{fun_ext}
-use Rattle.std.proofs.lemmas.List.{length-map, take_at, get_or-map, get_or_past, get_or_append_left, get_or-append_right, get_or-replicate}
+use Rattle.std.proofs.lemmas.List.{length-map, get_or-map, get_or_past, get_or_append_left, get_or-append_right, get_or-replicate}
 use Rattle.std.proofs.lemmas.Bool.{cases_lt}
+use Rattle.std.proofs.lemmas.List.Sums.{AllPass-from_list_all}
+use Rattle.std.proofs.lemmas.List.Elements.{All-map}
+use Rattle.std.specs.Option.{option_map_or}
 use Rattle.rulings.specs.Points.{Points, listed}
 use Rattle.rulings.specs.Rulings.{has}
 use Rattle.rulings.specs.declared.ruling.Ruling.{Ruling}
@@ -10,19 +14,16 @@ use Rattle.semantics.specs.Walk.{numbers}
 use Rattle.semantics.proofs.Tests.{false_is_not_true, and_both, or_split, not_true}
 use Rattle.semantics.proofs.Joined.{length_numbers, get_or_numbers}
 use Rattle.semantics.proofs.RulingOf.{ruling_of, ruling_of_same}
-use Rattle.semantics.proofs.Ways.{map_has}
 use Rattle.books.specs.declared.table.Entry.{Entry}
-use Rattle.books.specs.declared.table.Table.{Table}
 use Rattle.books.specs.declared.rule_book.RuleBook.{RuleBook}
 use Rattle.books.specs.declared.protesters.Protesters.{Protesters as Rows}
 use Rattle.books.specs.declared.protest_book.ProtestBook.{ProtestBook}
-use Rattle.books.specs.Entries.{standing, any, for_point, looks_at}
+use Rattle.books.specs.Entries.{names}
 use Rattle.books.specs.RuleBook.{entry}
-use Rattle.books.specs.Protesters.{row}
-use Rattle.books.specs.Any.{any_has}
+use Rattle.books.specs.Protesters.{row, is_lodged, protesters_of}
 use Rattle.chapters.specs.Table.{chapter_of}
-use Rattle.worked.specs.Books.{Line, Are, Rules, protested, Protests, chapters, TablesPlace}
-use Rattle.worked.proofs.Checks.{all, all_use, within, within_use}
+use Rattle.worked.specs.Books.{Line, Is, Are, Rules, protested, Protests, chapters, TablesPlace}
+use Rattle.worked.proofs.Checks.{within, within_use}
 
 -- the ruling of a list of points below n, where n is at most 128
 pointed : (n : ℕ) → n ≤ 128 → (ps : List ℕ) → within n ps ≡ true → has (ruling_of (listed ps)) ≡ listed ps
@@ -34,132 +35,126 @@ abbrev pub line_inside : ℕ → Line → Bool
 line_inside n l = ltb l.point n && (within n l.supporters && within n l.strikers)
 
 abbrev pub rules_inside : ℕ → List Line → Bool
-rules_inside n ls = leb 1 n && (leb n 128 && (leb (length ls) 256 && all (line_inside n) ls))
+rules_inside n ls = leb 1 n && (leb n 128 && (leb (length ls) 256 && list_all (line_inside n) ls))
 
 entry_of : Line → Entry
 entry_of l = entry l.point (ruling_of (listed l.supporters)) (ruling_of (listed l.strikers))
 
--- 256 slots, the first of which hold the lines
-table_of : List Line → Table
-table_of ls =
-    record {
-      slots = map entry_of ls ++ replicate (256 - length ls) (entry 0 (ruling_of (listed [])) (ruling_of (listed [])));
-      count = length ls;
-    }
-
-table_stands : (ls : List Line) → standing (table_of ls) ≡ map entry_of ls
-unfolding table_of
-table_stands ls = take_at (map entry_of ls) _ (length ls) (length-map ls entry_of)
-
-module _ (n : ℕ) (most : n ≤ 128) where
-  entries_are : (ls : List Line) → all (line_inside n) ls ≡ true → Are (map entry_of ls) ls
+-- one line that is inside, and its entry
+module _ (n : ℕ) (most : n ≤ 128) (l : Line) (inside : line_inside n l ≡ true) where
+  entry_low : (entry_of l).point < n
   unfolding entry_of
-  entries_are [] h = tt
-  entries_are (l ∷ ls) h =
-      let p = and_both (line_inside n l) _ h in
-      let q = and_both (ltb l.point n) _ p.0 in
-      let r = and_both (within n l.supporters) _ q.1 in (
-        record { point = refl; supporters = pointed n most l.supporters r.0; strikers = pointed n most l.strikers r.1 },
-        entries_are ls p.1,
-      )
+  entry_low = ltb-true l.point n (and_both (ltb l.point n) _ inside).0
 
-  module _ (ls : List Line) (inside : all (line_inside n) ls ≡ true) where
-    head_inside : (a : ℕ) → any (for_point a) (map entry_of ls) ≡ true → a < n
-    unfolding entry_of
-    head_inside a h =
-        let (e, there, is) = any_has (for_point a) (map entry_of ls) h in
-        let (l, among, same) = map_has entry_of ls e there in
-        let low = ltb-true l.point n (and_both (ltb l.point n) _ (all_use (line_inside n) ls inside l among)).0 in
-        let at : e.point ≡ a = eqb-true e.point a is in
-        let point : l.point ≡ e.point = ap (λ (d : Entry). d.point) same in
-        omega arith
+  within_both : (within n l.supporters ≡ true) × (within n l.strikers ≡ true)
+  within_both = and_both (within n l.supporters) _ (and_both (ltb l.point n) _ inside).1
 
-    body_inside : (a b : ℕ) → any (looks_at a b) (map entry_of ls) ≡ true → b < n
-    unfolding entry_of
-    body_inside a b h =
-        let (e, there, is) = any_has (looks_at a b) (map entry_of ls) h in
-        let (l, among, same) = map_has entry_of ls e there in
-        let q = and_both (ltb l.point n) _ (all_use (line_inside n) ls inside l among) in
-        let r = and_both (within n l.supporters) _ q.1 in
-        let looks : looks_at a b (entry_of l) ≡ true = subst (λ (d : Entry). looks_at a b d ≡ true) (sym same) is in
-        go l r.0 r.1 (or_split (has (ruling_of (listed l.supporters)) b) _ (and_both (for_point a (entry_of l)) _ looks).1)
-      where
-        go : (l : Line) → within n l.supporters ≡ true → within n l.strikers ≡ true →
-            (has (ruling_of (listed l.supporters)) b ≡ true) ⊎ (has (ruling_of (listed l.strikers)) b ≡ true) → b < n
-        go l p q (inl e) = within_use n l.supporters p b (sym (ap (λ (x : Points). x b) (pointed n most l.supporters p)) ∙ e)
-        go l p q (inr e) = within_use n l.strikers q b (sym (ap (λ (x : Points). x b) (pointed n most l.strikers q)) ∙ e)
+  entry_is : Is (entry_of l) l
+  unfolding entry_of
+  entry_is = record { point = refl; supporters = pointed n most l.supporters within_both.0; strikers = pointed n most l.strikers within_both.1 }
+
+  names_inside : (b : ℕ) → names (entry_of l) b ≡ true → b < n
+  unfolding entry_of
+  names_inside b h = elim (or_split (has (ruling_of (listed l.supporters)) b) _ h) [
+    | inl e ↦ within_use n l.supporters within_both.0 b (sym (ap (λ (x : Points). x b) entry_is.supporters) ∙ e)
+    | inr e ↦ within_use n l.strikers within_both.1 b (sym (ap (λ (x : Points). x b) entry_is.strikers) ∙ e)
+  ]
+
+entries_are : (n : ℕ) → n ≤ 128 → (ls : List Line) → list_all (line_inside n) ls ≡ true → Are (map entry_of ls) ls
+entries_are n most [] h = tt
+entries_are n most (l ∷ ls) h =
+    let p = and_both (line_inside n l) _ h in
+    (entry_is n most l p.0, entries_are n most ls p.1)
 
 pub some_rules : (n : ℕ) (ls : List Line) → rules_inside n ls ≡ true → (b : RuleBook) × Rules n ls b
-unfolding table_of
 some_rules n ls h =
     let p = and_both (leb 1 n) _ h in
     let q = and_both (leb n 128) _ p.1 in
     let r = and_both (leb (length ls) 256) _ q.1 in
-    let most = leb-true n 128 q.0 in
-    let stands = table_stands ls in (
+    let inside = r.1 in
+    let each = AllPass-from_list_all (line_inside n) ls inside in
+    let most = leb-true n 128 q.0 in (
       record {
         size = n;
-        table = table_of ls;
+        table = record { entries = record { items = map entry_of ls } };
         least = leb-true 1 n p.0;
         most = most;
-        room = leb-true (length ls) 256 r.0;
-        heads = λ a e. head_inside n most ls r.1 a (subst (λ (es : List Entry). any (for_point a) es ≡ true) stands e);
-        bodies = λ a b e. body_inside n most ls r.1 a b (subst (λ (es : List Entry). any (looks_at a b) es ≡ true) stands e);
+        room = omega (arith, length-map ls entry_of, leb-true (length ls) 256 r.0);
+        heads = All-map (λ (e : Entry). e.point < n) entry_of ls (λ k l i. entry_low n most (slice_index_or ls k l) (each k l i));
+        bodies = All-map (λ (e : Entry). (b : ℕ) → names e b ≡ true → b < n) entry_of ls (λ k l i. names_inside n most (slice_index_or ls k l) (each k l i));
       },
-      record { sized = refl; written = subst (λ (es : List Entry). Are es ls) (sym stands) (entries_are n most ls r.1) },
+      record { sized = refl; written = entries_are n most ls inside },
     )
 
 -- ---- protests
 
-abbrev pub protests_inside : ℕ → List ℕ → List (ℕ × ℕ) → Bool
-protests_inside n points pairs = leb 1 n && (leb n 128 && (within n points && all (λ p. ltb p.0 n && ltb p.1 n) pairs))
+-- a protest is by a point below n against a point that is lodged
+abbrev pub protest_inside : ℕ → List ℕ → ℕ × ℕ → Bool
+protest_inside n points p = ltb p.0 n && listed points p.1
 
-protested_inside : (n : ℕ) (pairs : List (ℕ × ℕ)) → all (λ p. ltb p.0 n && ltb p.1 n) pairs ≡ true →
-    (a c : ℕ) → protested pairs a c ≡ true → (a < n) × (c < n)
-protested_inside n [] h a c e = false_is_not_true e
-protested_inside n (p ∷ ps) h a c e = go (and_both (ltb p.0 n && ltb p.1 n) _ h) (or_split (eqb c p.0 && eqb a p.1) _ e) (protested_inside n ps)
+abbrev pub protests_inside : ℕ → List ℕ → List (ℕ × ℕ) → Bool
+protests_inside n points pairs = leb 1 n && (leb n 128 && (within n points && list_all (protest_inside n points) pairs))
+
+protested_inside : (n : ℕ) (points : List ℕ) (pairs : List (ℕ × ℕ)) → list_all (protest_inside n points) pairs ≡ true →
+    (a c : ℕ) → protested pairs a c ≡ true → (listed points a ≡ true) × (c < n)
+protested_inside n points [] h a c e = false_is_not_true e
+protested_inside n points (p ∷ ps) h a c e = go (and_both (protest_inside n points p) _ h) (or_split (eqb c p.0 && eqb a p.1) _ e) (protested_inside n points ps)
   where
-    go : (ltb p.0 n && ltb p.1 n ≡ true) × (all (λ q. ltb q.0 n && ltb q.1 n) ps ≡ true) →
+    go : (protest_inside n points p ≡ true) × (list_all (protest_inside n points) ps ≡ true) →
         (eqb c p.0 && eqb a p.1 ≡ true) ⊎ (protested ps a c ≡ true) →
-        (all (λ q. ltb q.0 n && ltb q.1 n) ps ≡ true → (a c : ℕ) → protested ps a c ≡ true → (a < n) × (c < n)) → (a < n) × (c < n)
+        (list_all (protest_inside n points) ps ≡ true → (a c : ℕ) → protested ps a c ≡ true → (listed points a ≡ true) × (c < n)) →
+        (listed points a ≡ true) × (c < n)
     go q (inl s) ih =
-        let low = and_both (ltb p.0 n) _ q.0 in
+        let both = and_both (ltb p.0 n) _ q.0 in
         let at = and_both (eqb c p.0) _ s in
-        let i = ltb-true p.0 n low.0 in
-        let j = ltb-true p.1 n low.1 in
-        let f = eqb-true c p.0 at.0 in
-        let g = eqb-true a p.1 at.1 in
-        (omega arith, omega arith)
+        let by : c ≡ p.0 = eqb-true c p.0 at.0 in
+        let below = ltb-true p.0 n both.0 in
+        (ap (listed points) (eqb-true a p.1 at.1) ∙ both.1, omega arith)
     go q (inr s) ih = ih q.1 a c s
 
-rows_of : List (ℕ × ℕ) → Rows
-rows_of pairs = record { rows = map (λ a. ruling_of (protested pairs a)) (numbers 0 128) }
+-- the row of a point: its protesters, if it is lodged
+row_of : List ℕ → List (ℕ × ℕ) → ℕ → Option Ruling
+row_of points pairs a = cond (listed points a) (Some (ruling_of (protested pairs a))) None
 
-rows_are : (n : ℕ) → n ≤ 128 → (pairs : List (ℕ × ℕ)) → all (λ p. ltb p.0 n && ltb p.1 n) pairs ≡ true →
-    (a c : ℕ) → row (rows_of pairs) a c ≡ protested pairs a c
-unfolding rows_of
-rows_are n most pairs h a c = elim (cases_lt a 128) [ inl l ↦ here l | inr l ↦ past l ]
-  where
-    of_point : ℕ → Ruling
-    of_point d = ruling_of (protested pairs d)
+rows_of : List ℕ → List (ℕ × ℕ) → Rows
+rows_of points pairs = record { rows = map (row_of points pairs) (numbers 0 128) }
 
-    long : length (map of_point (numbers 0 128)) ≡ 128
-    long = length-map (numbers 0 128) of_point ∙ length_numbers 0 128
+module _ (n : ℕ) (most : n ≤ 128) (points : List ℕ) (low : within n points ≡ true) (pairs : List (ℕ × ℕ))
+    (inside : list_all (protest_inside n points) pairs ≡ true) where
+  -- a point past the table is not lodged, so each row is as it is to be
+  row_is : (a : ℕ) → row (rows_of points pairs) a ≡ row_of points pairs a
+  unfolding rows_of row_of
+  row_is a = elim (cases_lt a 128) [ inl l ↦ here l | inr l ↦ past l ]
+    where
+      here : a < 128 → row (rows_of points pairs) a ≡ row_of points pairs a
+      here l =
+          get_or-map (row_of points pairs) (numbers 0 128) a 0 None (omega (arith, length_numbers 0 128))
+          ∙ ap (row_of points pairs) (get_or_numbers 0 128 a 0 l ∙ omega arith)
 
-    is : has (of_point a) ≡ protested pairs a
-    is = ruling_of_same (protested pairs a) (λ d e. let i = protested_inside n pairs h a d e in omega arith)
+      past : 128 ≤ a → row (rows_of points pairs) a ≡ row_of points pairs a
+      past l =
+          get_or_past (map (row_of points pairs) (numbers 0 128)) a None (omega (arith, length-map (numbers 0 128) (row_of points pairs), length_numbers 0 128))
+          ∙ sym (ap (λ (t : Bool). cond t (Some (ruling_of (protested pairs a))) None)
+          (not_true (listed points a) (λ e. let i = within_use n points low a e in absurd (omega arith))))
 
-    here : a < 128 → row (rows_of pairs) a c ≡ protested pairs a c
-    here l =
-        ap (λ (x : Points). x c)
-        (get_or-map has (map of_point (numbers 0 128)) a (of_point 0) (λ _. false) (omega (arith, long))
-        ∙ (ap has (get_or-map of_point (numbers 0 128) a 0 (of_point 0) (omega (arith, length_numbers 0 128)) ∙ ap of_point (get_or_numbers 0 128 a 0 l ∙ omega arith)) ∙ is))
+  lodging_is : is_lodged (rows_of points pairs) ≡ listed points
+  unfolding row_of
+  lodging_is = fun_ext (λ a. ap (λ (r : Option Ruling). is_some r) (row_is a) ∙ there (ruling_of (protested pairs a)) (listed points a))
+    where
+      there : (r : Ruling) (t : Bool) → is_some (cond t (Some r) None) ≡ t
+      there r true = refl
+      there r false = refl
 
-    past : 128 ≤ a → row (rows_of pairs) a c ≡ protested pairs a c
-    past l =
-        ap (λ (x : Points). x c)
-        (get_or_past (map has (map of_point (numbers 0 128))) a (λ _. false) (omega (arith, length-map (map of_point (numbers 0 128)) has, long)))
-        ∙ sym (not_true (protested pairs a c) (λ e. let i = protested_inside n pairs h a c e in absurd (omega arith)))
+  protests_are : (a c : ℕ) → protesters_of (rows_of points pairs) a c ≡ protested pairs a c
+  unfolding row_of
+  protests_are a c = ap (λ (r : Option Ruling). option_map_or has r (λ _. false) c) (row_is a) ∙ among (listed points a) refl
+    where
+      is : has (ruling_of (protested pairs a)) ≡ protested pairs a
+      is = ruling_of_same (protested pairs a) (λ d e. let i = (protested_inside n points pairs inside a d e).1 in omega arith)
+
+      among : (t : Bool) → listed points a ≡ t → option_map_or has (cond t (Some (ruling_of (protested pairs a))) None) (λ _. false) c ≡ protested pairs a c
+      among true e = ap (λ (x : Points). x c) is
+      among false e = sym (not_true (protested pairs a c) (λ h. false_is_not_true (sym e ∙ (protested_inside n points pairs inside a c h).0)))
 
 pub some_protests : (n : ℕ) (points : List ℕ) (pairs : List (ℕ × ℕ)) → protests_inside n points pairs ≡ true → (b : ProtestBook) × Protests n points pairs b
 some_protests n points pairs h =
@@ -167,18 +162,17 @@ some_protests n points pairs h =
     let q = and_both (leb n 128) _ p.1 in
     let r = and_both (within n points) _ q.1 in
     let most = leb-true n 128 q.0 in
-    let lodging = pointed n most points r.0 in
-    let rows = rows_are n most pairs r.1 in (
+    let lodging = lodging_is n most points r.0 pairs r.1 in
+    let protests = protests_are n most points r.0 pairs r.1 in (
       record {
         size = n;
-        lodged = ruling_of (listed points);
-        protesters = rows_of pairs;
+        protesters = rows_of points pairs;
         least = leb-true 1 n p.0;
         most = most;
         arguments = λ a e. within_use n points r.0 a (sym (ap (λ (x : Points). x a) lodging) ∙ e);
-        attackers = λ a c e. (protested_inside n pairs r.1 a c (sym (rows a c) ∙ e)).1;
+        attackers = λ a c e. (protested_inside n points pairs r.1 a c (sym (protests a c) ∙ e)).1;
       },
-      record { sized = refl; lodging = lodging; protests = rows },
+      record { sized = refl; lodging = lodging; protests = protests },
     )
 
 -- ---- chapters

@@ -1,5 +1,7 @@
 -- What written books mean, by lists of points.
+use Rattle.std.specs.List.{list_all, list_any}
 use Rattle.std.proofs.Common.{◌≡◌, ℕ, ◌<◌, Bool, true, false, not, ◌&&◌, ◌||◌, eqb, ◌⊎◌, List, [], ◌∷◌, sym, refl, ap, ◌∙◌, subst, ap₂, inl, inr, arith, eq-eqb, eqb-true}
+use Rattle.std.proofs.lemmas.Bool.{not-true}
 use mathlib.Core.Path.{fun_ext}
 use Rattle.rulings.specs.Points.{Points, Part, Disjoint, listed}
 use Rattle.rulings.specs.Rulings.{has}
@@ -8,38 +10,38 @@ use Rattle.semantics.proofs.Tests.{false_is_not_true, and_both, and_of, or_split
 use Rattle.books.specs.declared.table.Entry.{Entry}
 use Rattle.books.specs.declared.rule_book.RuleBook.{RuleBook}
 use Rattle.books.specs.declared.protest_book.ProtestBook.{ProtestBook}
-use Rattle.books.specs.Entries.{any, covers, avoids, fires, looks_at}
+use Rattle.books.specs.Entries.{covers, avoids, fires, looks_at}
 use Rattle.books.specs.RuleBook.{entries, meaning_of}
 use Rattle.books.specs.ProtestBook.{protesters, protest_meaning}
 use Rattle.books.specs.Tests.{nand_of, nand_use}
 use Rattle.books.specs.EntriesLemmas.{has_below, covers_use, covers_of, avoids_use, avoids_of, entries_lawful}
 use Rattle.books.specs.Protests.{protests_lawful}
 use Rattle.worked.specs.Books.{Line, Is, Are, Rules, protested, Protests}
-use Rattle.worked.proofs.Checks.{of_not, all, all_listed, listed_all}
+use Rattle.worked.proofs.Checks.{all_listed, listed_all}
 
 -- the line is for point a, and a derives by it under (x, y)
 abbrev pub line_fires : ℕ → Points → Points → Line → Bool
-line_fires a x y l = eqb l.point a && (all x l.supporters && all (λ b. not (y b)) l.strikers)
+line_fires a x y l = eqb l.point a && (list_all x l.supporters && list_all (λ b. not (y b)) l.strikers)
 
 abbrev pub line_looks_at : ℕ → ℕ → Line → Bool
 line_looks_at a b l = eqb l.point a && (listed l.supporters b || listed l.strikers b)
 
 -- what the lines mean
 abbrev pub by_lines : ℕ → List Line → Meaning
-by_lines n ls = record { size = n; derives = λ x y a. any (line_fires a x y) ls; reads = λ a b. any (line_looks_at a b) ls }
+by_lines n ls = record { size = n; derives = λ x y a. list_any (line_fires a x y) ls; reads = λ a b. list_any (line_looks_at a b) ls }
 
 module _ (p : Points) (small : (b : ℕ) → p b ≡ true → b < 128) (ps : List ℕ) (is : p ≡ listed ps) where
-  covers_all : (x : Points) → covers x p ≡ all x ps
+  covers_all : (x : Points) → covers x p ≡ list_all x ps
   covers_all x =
-      both_ways (covers x p) (all x ps)
+      both_ways (covers x p) (list_all x ps)
       (λ h. listed_all x ps (subst (λ (q : Points). Part q x) is (covers_use p small x h)))
       (λ h. covers_of p small x (subst (λ (q : Points). Part q x) (sym is) (all_listed x ps h)))
 
-  avoids_all : (y : Points) → avoids y p ≡ all (λ b. not (y b)) ps
+  avoids_all : (y : Points) → avoids y p ≡ list_all (λ b. not (y b)) ps
   avoids_all y =
-      both_ways (avoids y p) (all (λ b. not (y b)) ps)
+      both_ways (avoids y p) (list_all (λ b. not (y b)) ps)
       (λ h. listed_all (λ b. not (y b)) ps (λ b q. ap not (avoids_use p small y h b (ap (λ (z : Points). z b) is ∙ q))))
-      (λ h. avoids_of p small y (λ b q. of_not (y b) (all_listed (λ c. not (y c)) ps h b (sym (ap (λ (z : Points). z b) is) ∙ q))))
+      (λ h. avoids_of p small y (λ b q. not-true (y b) (all_listed (λ c. not (y c)) ps h b (sym (ap (λ (z : Points). z b) is) ∙ q))))
 
 fires_is : (a : ℕ) (x y : Points) (e : Entry) (l : Line) → Is e l → fires a x y e ≡ line_fires a x y l
 fires_is a x y e l is =
@@ -52,7 +54,7 @@ looks_is a b e l is =
     ap₂ ◌&&◌ (ap (λ (c : ℕ). eqb c a) is.point)
     (ap₂ ◌||◌ (ap (λ (z : Points). z b) is.supporters) (ap (λ (z : Points). z b) is.strikers))
 
-any_are : (f : Entry → Bool) (g : Line → Bool) → ((e : Entry) (l : Line) → Is e l → f e ≡ g l) → (es : List Entry) (ls : List Line) → Are es ls → any f es ≡ any g ls
+any_are : (f : Entry → Bool) (g : Line → Bool) → ((e : Entry) (l : Line) → Is e l → f e ≡ g l) → (es : List Entry) (ls : List Line) → Are es ls → list_any f es ≡ list_any g ls
 any_are f g h [] [] w = refl
 any_are f g h [] (l ∷ ls) w = absurd w
 any_are f g h (e ∷ es) [] w = absurd w
@@ -75,7 +77,7 @@ of_rules n ls So h b r =
 
 -- none of the protesters of a is in y
 abbrev pub unprotested : List (ℕ × ℕ) → Points → ℕ → Bool
-unprotested pairs y a = all (λ p. not (eqb a p.1 && y p.0)) pairs
+unprotested pairs y a = list_all (λ p. not (eqb a p.1 && y p.0)) pairs
 
 abbrev pub by_protests : ℕ → List ℕ → List (ℕ × ℕ) → Meaning
 by_protests n points pairs =

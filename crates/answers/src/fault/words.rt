@@ -1,5 +1,6 @@
 // Faults in words, for people.
 use super::{Fault, Layer};
+use std::error::Error;
 use std::fmt;
 
 impl fmt::Display for Layer {
@@ -28,3 +29,5 @@ impl fmt::Display for Fault {
         }
     }
 }
+
+impl Error for Fault {}

@@ -5,8 +5,9 @@ ghost use Rattle.books.specs.Protests.{protests_lawful, protest_opens, protest_e
 
 use super::ProtestBook;
 use crate::book::Book;
+use crate::checks;
 use crate::protesters::Protesters;
-use answers::{Fault, Layer, Refusal};
+use answers::{Fault, Refusal};
 use rulings::Ruling;
 
 impl ProtestBook {
@@ -18,7 +19,6 @@ impl ProtestBook {
     {
         ProtestBook {
             size: 1,
-            lodged: Ruling::empty(),
             protesters: Protesters::new(),
         }
     }
@@ -46,46 +46,39 @@ impl Book for ProtestBook {
     }
 
     fn derives(&self, point: u8, _x: Ruling, y: Ruling) -> bool {
-        self.lodged.has(point) && self.protesters.of(point).is_disjoint_from(y)
+        self.protesters
+            .of(point)
+            .is_some_and(|protesters| protesters.is_disjoint_from(y))
     }
 
     fn reads(&self, point: u8, other: u8) -> bool {
-        self.lodged.has(point) && self.protesters.of(point).has(other)
+        self.protesters
+            .of(point)
+            .is_some_and(|protesters| protesters.has(other))
     }
 
     fn open(&mut self, size: u8) -> Result<(), Fault> {
-        if size == 0 || size > 128 {
-            return Err(Fault::new(Layer::Book, Refusal::BadSize));
-        }
+        checks::size(size)?;
         self.size = size;
-        self.lodged = Ruling::empty();
         self.protesters = Protesters::new();
         Ok(())
     }
 
     fn enter(&mut self, point: u8, p: Ruling, q: Ruling) -> Result<(), Fault> {
-        if point >= self.size {
-            return Err(Fault::new(Layer::Book, Refusal::NoSuchPoint(point)));
-        }
-        if let Some(stray) = p.union(q).first_from(self.size) {
-            return Err(Fault::new(Layer::Book, Refusal::StrayMark(stray)));
-        }
+        checks::point(point, self.size)?;
+        checks::marks(p, q, self.size)?;
         if let Some(supporter) = p.first_from(0) {
-            return Err(Fault::new(Layer::Book, Refusal::NoSupportersHere(supporter)));
+            return Err(checks::fault(Refusal::NoSupportersHere(supporter)));
         }
-        self.lodged.insert(point);
-        self.protesters.add(point, q);
+        self.protesters.lodge(point, q);
         Ok(())
     }
 
     fn withdraw(&mut self, point: u8) -> Result<(), Fault> {
-        if point >= self.size {
-            return Err(Fault::new(Layer::Book, Refusal::NoSuchPoint(point)));
+        checks::point(point, self.size)?;
+        if self.protesters.of(point).is_none() {
+            return Err(checks::fault(Refusal::NothingEntered(point)));
         }
-        if !self.lodged.has(point) {
-            return Err(Fault::new(Layer::Book, Refusal::NothingEntered(point)));
-        }
-        self.lodged = self.lodged.difference(Ruling::from_points(&[point]));
         self.protesters.clear(point);
         Ok(())
     }

@@ -6,8 +6,9 @@ ghost use Rattle.books.specs.PromiseLemmas as Promise;
 
 use super::RuleBook;
 use crate::book::Book;
+use crate::checks;
 use crate::table::{Entry, Table};
-use answers::{Fault, Layer, Refusal};
+use answers::{Fault, Refusal};
 use rulings::Ruling;
 
 impl RuleBook {
@@ -53,38 +54,26 @@ impl Book for RuleBook {
     }
 
     fn open(&mut self, size: u8) -> Result<(), Fault> {
-        if size == 0 || size > 128 {
-            return Err(Fault::new(Layer::Book, Refusal::BadSize));
-        }
+        checks::size(size)?;
         self.size = size;
         self.table.clear();
         Ok(())
     }
 
     fn enter(&mut self, point: u8, p: Ruling, q: Ruling) -> Result<(), Fault> {
-        if point >= self.size {
-            return Err(Fault::new(Layer::Book, Refusal::NoSuchPoint(point)));
-        }
-        if let Some(stray) = p.union(q).first_from(self.size) {
-            return Err(Fault::new(Layer::Book, Refusal::StrayMark(stray)));
-        }
-        if self.table.is_full() {
-            return Err(Fault::new(Layer::Book, Refusal::BookFull));
-        }
+        checks::point(point, self.size)?;
+        checks::marks(p, q, self.size)?;
         self.table.push(Entry {
             point,
             supporters: p,
             strikers: q,
-        });
-        Ok(())
+        })
     }
 
     fn withdraw(&mut self, point: u8) -> Result<(), Fault> {
-        if point >= self.size {
-            return Err(Fault::new(Layer::Book, Refusal::NoSuchPoint(point)));
-        }
+        checks::point(point, self.size)?;
         if !self.table.has_entry_for(point) {
-            return Err(Fault::new(Layer::Book, Refusal::NothingEntered(point)));
+            return Err(checks::fault(Refusal::NothingEntered(point)));
         }
         self.table.remove(point);
         Ok(())

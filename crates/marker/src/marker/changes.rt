@@ -47,7 +47,7 @@ impl<B: Book> Marker<B> {
     }
     // Gives the point a chapter.
     pub fn place(&mut self, point: u8, chapter: u8) -> Result<(), Fault>
-        ensures { Placed (B.Book.meaning (book_of self.old)).size self.old point chapter result self.new }
+        ensures { Placed (B.meaning (book_of self.old)).size self.old point chapter result self.new }
     {
         if point >= self.book.size() {
             return Err(Fault::new(Layer::Marker, Refusal::NoSuchPoint(point)));

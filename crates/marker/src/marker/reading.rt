@@ -1,25 +1,22 @@
 // Reading a book upward, chapter by chapter.
 ghost use Rattle.marker.specs.Reading.{ReadInto, AddsChapter};
-ghost use Rattle.marker.specs.State.{book_of, chapters_of};
-ghost use Rattle.chapters.specs.Table.{chapter_of};
+ghost use Rattle.marker.specs.State.{book_of, placing};
 ghost use Rattle.std.specs.Prelude.{ℕ, ◌<◌};
 ghost use Rattle.rulings.specs.Rulings.{has};
 ghost use Rattle.semantics.specs.WellFounded.{PartRead};
 
 use super::Marker;
-use answers::{Fault, Layer, Refusal};
+use answers::Fault;
 use books::Book;
-use chapters::{Chapter, Reading, first_upward, least_pair};
+use chapters::{Chapter, Reading, least_pair};
 use rulings::Ruling;
 
 impl<B: Book> Marker<B> {
     // Puts what is sure and what is possible into the two places lent.
     pub fn read(&self, sure: &mut Ruling, possible: &mut Ruling) -> Result<(), Fault>
-        ensures { ReadInto (B.Book.meaning (book_of self.now)) (chapter_of (chapters_of self.now)) result sure.old possible.old sure.new possible.new }
+        ensures { ReadInto (B.meaning (book_of self.now)) (placing self.now) result sure.old possible.old sure.new possible.new }
     {
-        if let Some((a, b)) = first_upward(&self.book, &self.chapters) {
-            return Err(Fault::new(Layer::Marker, Refusal::ReadsUpward(a, b)));
-        }
+        self.refuse_upward_readings()?;
         let reading = self.read_upward();
         *sure = reading.sure;
         *possible = reading.possible;
@@ -28,7 +25,7 @@ impl<B: Book> Marker<B> {
 
     // The reading of all sixteen chapters, from the lowest up.
     fn read_upward(&self) -> Reading
-        ensures { (k : ℕ) → k < 16 → PartRead (B.Book.meaning (book_of self.now)) (chapter_of (chapters_of self.now)) (has result.sure) (has result.possible) k }
+        ensures { (k : ℕ) → k < 16 → PartRead (B.meaning (book_of self.now)) (placing self.now) (has result.sure) (has result.possible) k }
     {
         let mut reading = Reading {
             sure: Ruling::empty(),
@@ -43,7 +40,7 @@ impl<B: Book> Marker<B> {
     // Adds the pair of one chapter to the reading of the lower chapters. An undecided lower point is not granted
     // where sure points are worked out, and is granted where possible points are.
     fn read_chapter(&self, number: u8, below: Reading) -> Reading
-        ensures { AddsChapter (B.Book.meaning (book_of self.now)) (chapter_of (chapters_of self.now)) number below result }
+        ensures { AddsChapter (B.meaning (book_of self.now)) (placing self.now) number below result }
     {
         let points = self.chapters.points_of(number);
         let for_sure = Chapter {

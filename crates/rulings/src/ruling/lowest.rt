@@ -10,25 +10,17 @@ impl Ruling {
     pub fn first_difference(self, other: Ruling) -> Option<u8>
         ensures { Lowest (differing self other) result }
     {
-        for i in 0..16u8 {
-            let apart = self.bytes[i as usize] ^ other.bytes[i as usize];
-            if let Some(k) = lowest_digit(apart) {
-                return Some((i << 3) | k);
-            }
-        }
-        None
+        let place = (0..16u8).find(|i| self.bytes[*i as usize] != other.bytes[*i as usize])?;
+        let apart = self.bytes[place as usize] ^ other.bytes[place as usize];
+        let digit = lowest_digit(apart)?;
+        Some((place << 3) | digit)
     }
 
     // The lowest point at or above a number.
     pub fn first_from(self, start: u8) -> Option<u8>
         ensures { Lowest (λ a. nat_le start a && has self a) result }
     {
-        for point in start..128 {
-            if self.has(point) {
-                return Some(point);
-            }
-        }
-        None
+        (start..128).find(|point| self.has(*point))
     }
 }
 
@@ -36,10 +28,5 @@ impl Ruling {
 fn lowest_digit(byte: u8) -> Option<u8>
     ensures { Lowest (digit byte) result }
 {
-    for k in 0..8u8 {
-        if (byte >> k) & 1 == 1 {
-            return Some(k);
-        }
-    }
-    None
+    (0..8).find(|k| (byte >> *k) & 1 == 1)
 }

@@ -1,7 +1,7 @@
 // Making a ruling, and asking for one point or adding it.
 ghost use Rattle.std.specs.Prelude.{◌≡◌, ℕ, false, ◌&&◌, ◌||◌, ◌==◌, nat_lt};
 ghost use Rattle.rulings.specs.Points.{listed};
-ghost use Rattle.rulings.specs.Rulings.{has};
+ghost use Rattle.rulings.specs.Rulings.{has, Picked};
 
 use super::Ruling;
 
@@ -23,17 +23,18 @@ impl Ruling {
         ruling
     }
 
-    pub fn from_bytes(bytes: [u8; 16]) -> Ruling
-        ensures { result.bytes ≡ bytes }
+    // The points below a size (and below 128) for which a test holds.
+    pub fn points_where<F: Fn(u8) -> bool>(size: u8, test: F) -> Ruling
+        requires { F.IsAlwaysCallable test }
+        ensures { Picked (F.post test) size result }
     {
-        Ruling { bytes }
-    }
-
-    pub fn bytes(self) -> [u8; 16]
-        ensures { result ≡ self.bytes }
-    {
-        let Ruling { bytes, .. } = self;
-        bytes
+        let mut ruling = Ruling::empty();
+        for point in 0..size.min(128) {
+            if test(point) {
+                ruling.insert(point);
+            }
+        }
+        ruling
     }
 
     // Membership; false for a point of 128 or above.

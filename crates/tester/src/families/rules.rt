@@ -1,71 +1,81 @@
-// Every rule book of at most three points with at most two entries.
-use super::try_every_placement;
+// Rule books: every one with at most two entries, and drawn ones with at most twelve.
+use super::Family;
+use crate::drawing::{Draws, Reach};
 use crate::masks::Mask;
+use crate::placements::Placement;
 use crate::rule_books::{SmallEntry, SmallRuleBook};
 use crate::tally::Tally;
 use books::RuleBook;
-use marker::Marker;
 use std::alloc::{AllocError, Global};
 
-pub(crate) fn of_three_points(heap: Global) -> Result<Tally, AllocError> {
-    let mut marker = Marker::new(RuleBook::new());
-    let mut tally = Tally::new(heap);
-    for size in 1..4u8 {
-        try_size(&mut marker, &mut tally, size)?;
+impl Family for SmallRuleBook {
+    type Sort = RuleBook;
+
+    const SEED: u64 = 1;
+
+    fn new_book() -> RuleBook {
+        RuleBook::new()
     }
-    Ok(tally)
-}
 
-// How many entries there are over a size of at most three: a point, and two sets of points.
-fn entries(size: u8) -> u16 {
-    u16::from(size & 3) << ((size & 3) * 2)
-}
+    // No entry, one, or a first with each second one that is not before it; the same entry may stand twice.
+    fn every_of_size(heap: Global, size: u8) -> Result<Vec<SmallRuleBook>, AllocError> {
+        let entries = every_entry(heap, size)?;
+        let mut books = Vec::new(heap);
+        books.push(SmallRuleBook::new(size, Vec::new(heap)))?;
+        for (at, first) in entries.iter().enumerate() {
+            books.push(with_entries(heap, size, &[*first])?)?;
+            for second in &entries[at..] {
+                books.push(with_entries(heap, size, &[*first, *second])?)?;
+            }
+        }
+        Ok(books)
+    }
 
-fn entry(size: u8, code: u16) -> SmallEntry {
-    let size = size & 3;
-    SmallEntry {
-        point: low_byte(code >> (size * 2)),
-        supporters: Mask::from_bits(low_byte(code >> size)).within(Mask::all(size)),
-        strikers: Mask::from_bits(low_byte(code)).within(Mask::all(size)),
+    fn draw(
+        draws: &mut Draws,
+        heap: Global,
+        placement: &Placement,
+        reach: Reach,
+    ) -> Result<SmallRuleBook, AllocError> {
+        let size = placement.size();
+        let mut entries = Vec::new(heap);
+        for _ in 0..draws.below(13) {
+            let point = draws.below(size);
+            let readable = reach.readable(placement, point);
+            entries.push(SmallEntry {
+                point,
+                supporters: draws.some_of(readable),
+                strikers: draws.some_of(readable),
+            })?;
+        }
+        Ok(SmallRuleBook::new(size, entries))
+    }
+
+    fn compare_definitions(&self, _tally: &mut Tally) -> Result<(), AllocError> {
+        Ok(())
     }
 }
 
-fn low_byte(code: u16) -> u8 {
-    (code & 0xff) as u8
-}
-
-// No entry, one, or two.
-fn try_size(marker: &mut Marker<RuleBook>, tally: &mut Tally, size: u8) -> Result<(), AllocError> {
-    try_entries(marker, tally, size, &[])?;
-    for code in 0..entries(size) {
-        try_entries(marker, tally, size, &[code])?;
-        try_twos(marker, tally, size, code)?;
-    }
-    Ok(())
-}
-
-// A first entry with each second one that is not before it; the same entry may stand twice.
-fn try_twos(
-    marker: &mut Marker<RuleBook>,
-    tally: &mut Tally,
+fn with_entries(
+    heap: Global,
     size: u8,
-    first: u16,
-) -> Result<(), AllocError> {
-    for second in first..entries(size) {
-        try_entries(marker, tally, size, &[first, second])?;
-    }
-    Ok(())
+    entries: &[SmallEntry],
+) -> Result<SmallRuleBook, AllocError> {
+    Ok(SmallRuleBook::new(size, Vec::from_slice(heap, entries)?))
 }
 
-fn try_entries(
-    marker: &mut Marker<RuleBook>,
-    tally: &mut Tally,
-    size: u8,
-    codes: &[u16],
-) -> Result<(), AllocError> {
-    let mut book = SmallRuleBook::new(tally.heap(), size);
-    for code in codes {
-        book.add(entry(size, *code))?;
+fn every_entry(heap: Global, size: u8) -> Result<Vec<SmallEntry>, AllocError> {
+    let mut entries = Vec::new(heap);
+    for point in 0..size {
+        for supporters in Mask::sets(size) {
+            for strikers in Mask::sets(size) {
+                entries.push(SmallEntry {
+                    point,
+                    supporters,
+                    strikers,
+                })?;
+            }
+        }
     }
-    try_every_placement(marker, tally, &book)
+    Ok(entries)
 }

@@ -1,36 +1,26 @@
--- A part is stable if it and its closure contain each other.
-use Rattle.std.proofs.Common.{◌≡◌, Bool, true, false, ◌↔◌, sym, ◌∙◌, subst}
-use Rattle.rulings.specs.Points.{Points, Part}
+-- A part is stable if it is its own closure, and two rulings are equal exactly if they have the same points.
+use Rattle.std.proofs.Common.{◌≡◌, Bool, true, ◌↔◌, sym, ap, ◌∙◌, subst}
+use Rattle.std.specs.Str.{bytes_eq}
+use Rattle.std.proofs.lemmas.Slice.Eq.{bytes_eq-Decides}
+use Rattle.rulings.specs.Points.{Points}
 use Rattle.rulings.specs.Rulings.{has}
+use Rattle.rulings.specs.declared.ruling.Ruling.{Ruling}
+use Rattle.rulings.proofs.Bytes.{same_list, same_points}
 use Rattle.semantics.specs.Meaning.{Meaning}
-use Rattle.semantics.specs.Closure.{IsClosure, Stable}
 use Rattle.semantics.specs.Chapters.{restricted}
-use Rattle.semantics.proofs.Tests.{false_is_not_true}
-use Rattle.semantics.proofs.Closures.{unique, same_points}
+use Rattle.semantics.specs.Closure.{IsClosure, Stable}
+use Rattle.semantics.proofs.Closures.{unique}
 use Rattle.chapters.proofs.candidates.is_stable_over.Goals as goal
 
-module _ (m : Meaning) (x X : Points) (c : IsClosure m x X) where
-  stable_of : Part x X → Part X x → Stable m x
-  stable_of p q = subst (IsClosure m x) (same_points X x q p) c
+own_closure : (m : Meaning) (x c : Ruling) (r : Bool) → IsClosure m (has x) (has c) → r ≡ bytes_eq x.bytes c.bytes → (r ≡ true) ↔ Stable m (has x)
+own_closure m x c r is equal = (
+  λ e. subst (IsClosure m (has x)) (sym (ap has (same_list x c ((bytes_eq-Decides x.bytes c.bytes).0 (sym equal ∙ e))))) is,
+  λ s.
+      let same = unique m (has x) (has x) (has c) s is in
+      equal ∙ (bytes_eq-Decides x.bytes c.bytes).1 (ap (λ (q : Ruling). q.bytes) (same_points x c (λ a h. ap (λ (z : Points). z a) same))),
+)
 
-  parts_of : Stable m x → Part x X × Part X x
-  parts_of s =
-      let e = unique m x x X s c in
-      (λ a h. subst (λ (z : Points). z a ≡ true) e h, λ a h. subst (λ (z : Points). z a ≡ true) (sym e) h)
-
-  stable_then : (r : Bool) → Part x X → (r ≡ true) ↔ Part X x → (r ≡ true) ↔ Stable m x
-  stable_then r p d = (λ e. stable_of p (d.0 e), λ s. d.1 (parts_of s).1)
-
-  stable_else : (r : Bool) → (r ≡ true) ↔ Part x X → r ≡ false → (r ≡ true) ↔ Stable m x
-  stable_else r d e = (λ f. false_is_not_true (sym e ∙ f), λ s. d.1 (parts_of s).0)
-
-pub returns-then-is_part_of : goal.returns-then-is_part_of
-returns-then-is_part_of g c =
-    stable_then (restricted (g.B.Book.meaning c.args.book.now) (has c.args.points) (has c.args.lower) (has c.args.lower))
-    (has c.args.part) (has c.closure-closure.result) c.closure-closure.ensures c.is_part_of-then-is_part_of.result
-    (c.is_part_of.ensures.0 c.if-is_part_of.true) c.is_part_of-then-is_part_of.ensures
-
-pub returns-else-is_part_of : goal.returns-else-is_part_of
-returns-else-is_part_of g c =
-    stable_else (restricted (g.B.Book.meaning c.args.book.now) (has c.args.points) (has c.args.lower) (has c.args.lower))
-    (has c.args.part) (has c.closure-closure.result) c.closure-closure.ensures c.is_part_of.result c.is_part_of.ensures c.if-is_part_of.false
+pub returns : goal.returns
+returns g c =
+    own_closure (restricted (g.B.Book.meaning c.args.book.now) (has c.args.points) (has c.args.lower) (has c.args.lower)) c.args.part c.closure.result c.eq.result
+    (let o = c.over-chapter.ensures in simp (o.book, o.points, o.supporters, o.strikers) at c.closure.ensures) c.eq.ensures

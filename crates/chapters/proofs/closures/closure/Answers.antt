@@ -1,12 +1,7 @@
 use Rattle.std.proofs.Common.{arith}
 use Rattle.rulings.specs.Rulings.{has}
-use Rattle.chapters.proofs.Turns.{turn_none, turn_more, turn_settled, turns_done}
+use Rattle.chapters.proofs.Turns.{turn_more, turn_settled, turns_done}
 use Rattle.chapters.proofs.closures.closure.Goals as goal
-
-pub loop-turn-init : goal.loop-turn-init
-loop-turn-init g c =
-    let b = c.args.operator.now in
-    turn_none (g.O.Operator.meant b) (g.met.O.Operator.lawful b) (has c.args.y) (has c.empty-x.result) c.empty-x.ensures
 
 pub returns-then-is_part_of : goal.returns-then-is_part_of
 returns-then-is_part_of g c =

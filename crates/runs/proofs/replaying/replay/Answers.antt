@@ -1,7 +1,8 @@
 -- Each call extends the history by one.
-use Rattle.std.proofs.Common.{◌+◌, List, [], ◌∷◌, ◌++◌, map, take, vec_items, sym, subst, arith}
+use Rattle.std.proofs.Common.{◌+◌, List, Result, [], ◌∷◌, ◌++◌, map, take, vec_items, sym, subst, arith}
 use Rattle.std.proofs.lemmas.List.{take_all}
 use Rattle.std.proofs.lemmas.Result.{err_from_is_err_and}
+use Rattle.answers.specs.declared.fault.Fault.{Fault}
 use Rattle.marker.specs.declared.marker.Marker.{Marker}
 use Rattle.runs.specs.declared.answer.Answer.{Answer}
 use Rattle.runs.specs.declared.call.Call.{Call}
@@ -14,7 +15,7 @@ use Rattle.runs.proofs.replaying.replay.Goals as goal
 pub loop-call-init : goal.loop-call-init
 loop-call-init g c =
     let s = c.args.marker.now in
-    subst (λ (xs : List Answer). History (marker_calls g.B.Book) s [] (map told xs) s) (sym c.new-answers.ensures.items) (nothing (marker_calls g.B.Book) s)
+    subst (λ (xs : List (Result Answer Fault)). History (marker_calls g.B.Book) s [] (map told xs) s) (sym c.new-answers.ensures.items) (nothing (marker_calls g.B.Book) s)
 
 pub returns-in_err-answer : goal.returns-in_err-answer
 returns-in_err-answer g c =
@@ -39,7 +40,7 @@ pub loop-call-preserved : goal.loop-call-preserved
 loop-call-preserved g c =
     let i = c.loop-call.call-index in
     let calls = c.args.calls.now in
-    subst (λ (xs : List Answer). History (marker_calls g.B.Book) c.args.marker.now (take (i + 1) calls) (map told xs) c.answer.new.marker) (sym c.in_ok-push.ensures.items)
+    subst (λ (xs : List (Result Answer Fault)). History (marker_calls g.B.Book) c.args.marker.now (take (i + 1) calls) (map told xs) c.answer.new.marker) (sym c.in_ok-push.ensures.items)
     (extend_at (marker_calls g.B.Book) told calls i c.call-item.result (vec_items c.loop-call.answers) c.in_ok-answer.answer c.loop-call.marker c.answer.new.marker
     (omega arith) c.call-item.is c.in_ok-answer.ensures c.loop-call.invariant)
 

@@ -1,26 +1,23 @@
 use Rattle.std.proofs.Common.{◌≡◌, ℕ, Some, None, Ok, Option, sym, refl, subst, arith, below_more}
-use Rattle.rulings.specs.Points.{Lowest}
 use Rattle.rulings.specs.Rulings.{has}
 use Rattle.rulings.specs.declared.ruling.Ruling.{Ruling}
 use Rattle.semantics.specs.Meaning.{Meaning, Lawful}
 use Rattle.semantics.specs.Chapters.{Fit, Sixteen, PartStable}
-use Rattle.books.specs.Promise.{stray}
 use Rattle.answers.specs.declared.verdict.Verdict.{Verdict}
 use Rattle.answers.specs.declared.verdict.Verdict.TheVariants.{Stable}
 use Rattle.answers.specs.declared.verdict.ChapterVerdict.{ChapterVerdict}
-use Rattle.marker.specs.Judging.{ByChapter, JudgedByChapter, AgreesWithWhole, AgreesWithJudge}
+use Rattle.marker.specs.Judging.{NoStray, ByChapter, JudgedByChapter, AgreesWithWhole, AgreesWithJudge}
 use Rattle.chapters.specs.Table.{chapter_of}
 use Rattle.marker.proofs.Verdicts.{unstable, part_stable, by_chapter_agrees, judge_stable}
 use Rattle.marker.proofs.marker.Marker.judge_by_chapter.Goals as goal
 
 -- a call that is not denied: what was found by chapters, and by the splitting theorem of the whole
-accepted : (m : Meaning) (ch : ℕ → ℕ) (r : Ruling) (v : ChapterVerdict) (verdict : Verdict) (at : Option ℕ) → Lawful m → Sixteen ch → (n : ℕ) → n ≡ m.size →
-    Lowest (stray n (has r)) None → Fit m ch → v.verdict ≡ verdict → v.chapter ≡ at → ByChapter m ch (has r) verdict at →
+accepted : (m : Meaning) (ch : ℕ → ℕ) (r : Ruling) (v : ChapterVerdict) (verdict : Verdict) (at : Option ℕ) → Lawful m → Sixteen ch →
+    NoStray m r → Fit m ch → v.verdict ≡ verdict → v.chapter ≡ at → ByChapter m ch (has r) verdict at →
     record { judged : JudgedByChapter m ch r (Ok v); agrees : AgreesWithWhole m r (Ok v); same : AgreesWithJudge m r (Ok v) }
-accepted m ch r v verdict at l few n size none fit e f found =
+accepted m ch r v verdict at l few clear fit e f found =
     let by : ByChapter m ch (has r) v.verdict v.chapter =
     subst (λ (w : Verdict). ByChapter m ch (has r) w v.chapter) (sym e) (subst (λ (k : Option ℕ). ByChapter m ch (has r) verdict k) (sym f) found) in
-    let clear : Lowest (stray m.size (has r)) None = subst (λ (k : ℕ). Lowest (stray k (has r)) None) size none in
     let whole = by_chapter_agrees m ch (has r) l fit few v.verdict v.chapter by in
     record {
       judged = (clear, fit, by);
@@ -31,9 +28,9 @@ accepted m ch r v verdict at l few n size none fit e f found =
 pub returns-then-not-is_stable : goal.returns-then-not-is_stable
 returns-then-not-is_stable g c =
     let s = c.args.self.now in
-    accepted (g.B.Book.meaning s.book) (chapter_of s.chapters) c.args.ruling c.new-then-not-is_stable.result c.judge_part-verdict.result (Some c.loop-chapter.chapter)
-    (g.met.B.Book.lawful s.book) s.sixteen c.size.result c.size.ensures c.in_default.ensures c.in_default-first_upward.ensures
-    c.new-then-not-is_stable.ensures.verdict c.new-then-not-is_stable.ensures.chapter
+    accepted (g.B.Book.meaning s.book) (chapter_of s.chapters) c.args.ruling c.new.result c.judge_part-verdict.result (Some c.loop-chapter.chapter)
+    (g.met.B.Book.lawful s.book) s.sixteen c.in_ok-refuse_strays.ensures.ok c.in_ok-refuse_upward_readings.ensures.ok
+    c.new.ensures.verdict c.new.ensures.chapter
     (omega arith, c.loop-chapter.invariant, unstable c.judge_part-verdict.result (sym c.if-not-is_stable.ensures), c.judge_part-verdict.ensures)
 
 pub loop-chapter-preserved : goal.loop-chapter-preserved
@@ -45,7 +42,7 @@ loop-chapter-preserved g c =
 pub returns : goal.returns
 returns g c =
     let s = c.args.self.now in
-    accepted (g.B.Book.meaning s.book) (chapter_of s.chapters) c.args.ruling c.new-2.result Stable None
-    (g.met.B.Book.lawful s.book) s.sixteen c.size.result c.size.ensures c.in_default.ensures c.in_default-first_upward.ensures
-    c.new-2.ensures.verdict c.new-2.ensures.chapter
+    accepted (g.B.Book.meaning s.book) (chapter_of s.chapters) c.args.ruling c.from.result Stable None
+    (g.met.B.Book.lawful s.book) s.sixteen c.in_ok-refuse_strays.ensures.ok c.in_ok-refuse_upward_readings.ensures.ok
+    c.from.ensures.0 c.from.ensures.1
     (refl, λ k h. c.loop-chapter.invariant k (omega arith))

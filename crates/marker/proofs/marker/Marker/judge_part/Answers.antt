@@ -31,4 +31,4 @@ returns g c =
     part_verdict m l (chapter_of s.chapters) c.args.number (has c.args.ruling) D (has c.part_in-part.result) lower (has c.closure.result) c.compare.result
     (restricted_alike m l D (λ a. eqb (chapter_of s.chapters a) c.args.number) lower lower
     (points_of_chapter s.chapters c.args.number m.size c.points_of.result l.few_points c.points_of.ensures))
-    c.part_in-part.ensures c.part_below-lower.ensures c.closure.ensures c.compare.ensures
+    c.part_in-part.ensures c.part_below-lower.ensures (let o = c.over-chapter.ensures in simp (o.book, o.points, o.supporters, o.strikers) at c.closure.ensures) c.compare.ensures

@@ -27,12 +27,12 @@ tried_in_vain m ch found rows l why f fit narrow walked is (inl (e, over)) =
 tried_in_vain m ch found rows l why f fit narrow walked is (inr (e, within, more)) =
     (fit, narrow, (l.effort, walked.spent within, inr (is ∙ ap (fault_of layer.Marker) e, within, walked.more within (omega (arith, walked.as_long)))))
 
-pub returns-in-Some-in_vain : goal.returns-in-Some-in_vain
-returns-in-Some-in_vain g c =
+pub returns-in-Some : goal.returns-in-Some
+returns-in-Some g c =
     let s = c.args.self.now in
-    listed_denied (g.B.Book.meaning s.book) (chapter_of s.chapters) c.args.rows.now c.new-in-Some-in_vain.result c.fill.new.self (inr (
-      tried_in_vain (g.B.Book.meaning s.book) (chapter_of s.chapters) c.args.rows.now c.walk-listing.new.rows c.walk-listing.result c.in-Some-in_vain.refusal
-          c.new-in-Some-in_vain.result c.in_default.ensures c.in_default-first_wide.ensures c.walk-listing.ensures c.new-in-Some-in_vain.ensures c.in-Some-in_vain.ensures,
+    listed_denied (g.B.Book.meaning s.book) (chapter_of s.chapters) c.args.rows.now c.new.result c.fill.new.self (inr (
+      tried_in_vain (g.B.Book.meaning s.book) (chapter_of s.chapters) c.args.rows.now c.walk-listing.new.rows c.walk-listing.result c.in-Some.refusal
+          c.new.result c.in_ok-refuse_upward_readings.ensures.ok c.in_ok-refuse_wide_chapters.ensures.ok c.walk-listing.ensures c.new.ensures c.in-Some.ensures,
       filled_empty c.args.rows.now c.walk-listing.new.rows c.fill.new.self c.empty.result c.empty.ensures c.walk-listing.ensures.as_long
           c.fill.ensures.len c.fill.ensures.clones,
     ))

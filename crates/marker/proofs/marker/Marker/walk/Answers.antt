@@ -1,138 +1,139 @@
 -- Each turn of the walk is one of its steps.
-use Rattle.std.proofs.Common.{◌≡◌, ℕ, ◌+◌, ◌-◌, ◌<◌, ◌≤◌, set, sym, refl, ◌∙◌, arith, rules}
+use Rattle.std.proofs.Common.{◌≡◌, ℕ, ◌+◌, List, [], ◌∷◌, ◌++◌, length, get_or, sym, refl, ap, ◌∙◌, subst, ap₂, arith}
 use Rattle.rulings.specs.Rulings.{has}
 use Rattle.semantics.specs.Walk.{levels}
-use Rattle.semantics.proofs.Tests.{false_is_not_true}
-use Rattle.semantics.proofs.WalkSteps.{size_at}
-use Rattle.chapters.specs.Table.{chapter_of}
-use Rattle.marker.proofs.Walking.{levels_count, level_narrow, level_small, level_size, level_points, moved, walk_start, walk_onto, tried, walk_back, walk_done, walk_miss, walk_climb, walk_hit, walk_past}
+use Rattle.marker.specs.declared.marker.listing.Step.{Step}
+use Rattle.marker.specs.State.{book_of, placing}
+use Rattle.marker.proofs.Walking.{Paused, paused_at, level_narrow, level_of, one_more, no_more, walk_start, told, joined, walk_back, walk_miss, walk_climb, walk_hit, walk_past}
 use Rattle.marker.proofs.marker.Marker.walk.Goals as goal
-use Rattle.marker.proofs.marker.Marker.walk.Goals.{else-stable-via-then-stable+else-level-levels, else-stable-via-else-stable, then-stable-2, else-stable-2}
+
+-- the chapter of a level, read from the levels kept
+read_at : (ks read levels : List ℕ) (i level : ℕ) → ks ≡ levels → read ≡ ks → i ≡ level → get_or read i 0 ≡ get_or levels level 0
+read_at ks read levels i level e f h = ap₂ (λ (xs : List ℕ) (j : ℕ). get_or xs j 0) (f ∙ e) h
 
 pub walk-init : goal.walk-init
 walk-init g c =
     let s = c.args.self.now in
-    walk_start (g.B.Book.meaning s.book) (g.met.B.Book.lawful s.book) (chapter_of s.chapters) s.sixteen c.args.rows.now _ _ refl refl (λ d a. c.empty-lowers.ensures a)
+    let m = g.B.Book.meaning (book_of s) in
+    let rows = c.args.rows.now in
+    let first = c.over.result in
+    subst (λ (ss : List Step). Paused m (placing s) rows ss 0 0 rows) (sym (c.push.ensures.items ∙ ap (λ (ss : List Step). ss ++ first ∷ []) c.new-steps.ensures))
+    (paused_at m (placing s) rows [] first 0 0 rows (walk_start m (g.met.B.Book.lawful (book_of s)) (placing s) s.sixteen rows first
+    (ap (λ (t : Step). t.first) c.over.ensures) (λ a. ap (λ (t : Step). has t.lower a) c.over.ensures ∙ c.empty.ensures a)))
 
-pub subsets-size-requires : goal.subsets-size-requires
-subsets-size-requires g c =
+pub subsets-candidate-end-requires : goal.subsets-candidate-end-requires
+subsets-candidate-end-requires g c =
     let s = c.args.self.now in
-    level_narrow (g.B.Book.meaning s.book) (chapter_of s.chapters) c.args.levels.now c.requires.levels c.walk.level c.walk.invariant.within c.requires.narrow c.width.result c.width.ensures
+    let m = g.B.Book.meaning (book_of s) in
+    let level = length c.pop.new.self.items in
+    let at = c.walk.invariant.going c.pop.new.self.items c.in-Some.field-0 c.in-Some.ensures.items in
+    level_narrow m (placing s) level _ c.width.result (read_at _ _ (levels m (placing s)) _ level c.levels-levels.ensures c.deref.ensures.0 c.len.ensures.value)
+    c.width.ensures c.requires at.within
 
--- there is a candidate left where the level's size is not reached
-size_reached : (s n c : ℕ) → s ≡ n → c < s → c < n
-size_reached s n c e h = omega arith
-
-size_passed : (s n c : ℕ) → s ≡ n → s ≤ c → n ≤ c
-size_passed s n c e h = omega arith
-
-pub walk-preserved-then-level-levels : goal.walk-preserved-then-level-levels
-walk-preserved-then-level-levels g c =
+pub loop-candidate-init : goal.loop-candidate-init
+loop-candidate-init g c =
     let s = c.args.self.now in
-    let m = g.B.Book.meaning s.book in
-    let l = g.met.B.Book.lawful s.book in
-    let ch : ℕ → ℕ = chapter_of s.chapters in
-    let at = c.level.level in
-    let w = c.level.invariant.0 in
-    let size = level_size m ch c.args.levels.now c.requires.levels at w.within c.walk.level c.width.result c.subsets-size.result c.level.invariant.1 c.width.ensures c.subsets-size.ensures.0 in
-    let more = size_reached c.subsets-size.result (size_at m ch (levels m ch) at) c.level.candidate size c.level-test.true in
-    let low : at ≤ at = omega arith in
-    let t =
-    tried m l ch s.sixteen c.walk.rows c.level.picks c.level.lowers at c.level.candidate c.level.count c.level.effort c.level.rows w
-    c.points_in-points.result c.spread-part.result _ _ c.union-ruling.result c.is_stable_over-stable.result
-    (level_points m ch c.args.levels.now c.requires.levels at w.within c.walk.level (has c.points_in-points.result) c.level.invariant.1 c.points_in-points.ensures)
-    c.spread-part.ensures (w.lower at _ low) (w.lower at _ low) c.is_stable_over-stable.ensures c.union-ruling.ensures in
-    walk_onto m l ch s.sixteen c.args.rows.now c.walk.picks c.walk.lowers c.walk.level c.walk.candidate c.walk.count c.walk.effort c.walk.rows c.walk.invariant
-    (set c.level.picks at c.level.candidate) (set c.level.lowers (at + 1) c.union-ruling.result) (at + 1) 0 c.level.count (c.level.effort + 1) c.level.rows c.level.invariant.3
-    (walk_climb m l ch s.sixteen c.walk.rows c.level.picks c.level.lowers at c.level.candidate c.level.count c.level.effort c.level.rows w more
-    (sym t.told ∙ c.if-stable.true) c.union-ruling.result t.is
-    (let n = levels_count m ch c.args.levels.now c.requires.levels in omega (arith, c.if-level-levels.true)) (omega (arith, c.if-effort-gt65536.false)))
-
-pub level-preserved : goal.level-preserved
-level-preserved g c =
-    let s = c.args.self.now in
-    let m = g.B.Book.meaning s.book in
-    let l = g.met.B.Book.lawful s.book in
-    let ch : ℕ → ℕ = chapter_of s.chapters in
-    let at = c.level.level in
-    let w = c.level.invariant.0 in
-    let size = level_size m ch c.args.levels.now c.requires.levels at w.within c.walk.level c.width.result c.subsets-size.result c.level.invariant.1 c.width.ensures c.subsets-size.ensures.0 in
-    let more = size_reached c.subsets-size.result (size_at m ch (levels m ch) at) c.level.candidate size c.level-test.true in
-    let low : at ≤ at = omega arith in
-    let t =
-    tried m l ch s.sixteen c.walk.rows c.level.picks c.level.lowers at c.level.candidate c.level.count c.level.effort c.level.rows w
-    c.points_in-points.result c.spread-part.result _ _ c.union-ruling.result c.is_stable_over-stable.result
-    (level_points m ch c.args.levels.now c.requires.levels at w.within c.walk.level (has c.points_in-points.result) c.level.invariant.1 c.points_in-points.ensures)
-    c.spread-part.ensures (w.lower at _ low) (w.lower at _ low) c.is_stable_over-stable.ensures c.union-ruling.ensures in
-    elim c.if-stable-2.branch [
-      | then-stable-2 v ↦ (
-        moved m ch c.walk.rows _ _ _ _ (c.level.count + 1) c.if-stable-2.count _ v.insert_in_order.new.rows c.if-stable-2.rows v.count-is v.rows-is
-            (walk_hit m l ch s.sixteen c.walk.rows c.level.picks c.level.lowers at c.level.candidate c.level.count c.level.effort c.level.rows w more
-            (sym t.told ∙ v.if-stable-2.true) c.union-ruling.result t.is
-            (elim c.else-stable.branch [
-              | else-stable-via-then-stable+else-level-levels u ↦ (let n = levels_count m ch c.args.levels.now c.requires.levels in omega (arith, u.if-level-levels.false))
-              | else-stable-via-else-stable u ↦ false_is_not_true (sym u.if-stable.false ∙ v.if-stable-2.true)
-            ]) (omega (arith, c.if-effort-gt65536.false)) v.insert_in_order.result v.insert_in_order.new.rows v.insert_in_order.auto.rows v.insert_in_order.ensures),
-        c.level.invariant.1,
-        omega (arith, c.level.invariant.2),
-        omega (arith, c.level.invariant.3, v.count-is),
-      )
-      | else-stable-2 v ↦ (
-        moved m ch c.walk.rows _ _ _ _ c.level.count c.if-stable-2.count _ c.level.rows c.if-stable-2.rows v.count-is v.rows-is
-            (walk_miss m l ch s.sixteen c.walk.rows c.level.picks c.level.lowers at c.level.candidate c.level.count c.level.effort c.level.rows w more
-            (sym t.told ∙ v.if-stable-2.false) (omega (arith, c.if-effort-gt65536.false))),
-        c.level.invariant.1,
-        omega (arith, c.level.invariant.2),
-        omega (arith, c.level.invariant.3, v.count-is),
-      )
-    ]
-
-pub overflow_add-candidate-in-walk : goal.overflow_add-candidate-in-walk
-overflow_add-candidate-in-walk g c =
-    let s = c.args.self.now in
-    let m = g.B.Book.meaning s.book in
-    let ch : ℕ → ℕ = chapter_of s.chapters in
-    let w = c.level.invariant.0 in
-    let below : c.level.level - 1 < c.level.level = omega (arith, c.if-level-eq0.false) in
-    let small = level_small m ch c.args.levels.now c.requires.levels (c.level.level - 1) (omega (arith, w.within)) c.requires.narrow in
-    let valid = w.valid (c.level.level - 1) below in
-    search rules
+    let m = g.B.Book.meaning (book_of s) in
+    let level = length c.pop.new.self.items in
+    record {
+      at = c.walk.invariant.going c.pop.new.self.items c.in-Some.field-0 c.in-Some.ensures.items;
+      level =
+          level_of m (placing s) level _ c.width.result (read_at _ _ (levels m (placing s)) _ level c.levels-levels.ensures c.deref.ensures.0 c.len.ensures.value)
+          c.width.ensures c.points_in-points.result c.subsets-candidate-end.result c.points_in-points.ensures c.subsets-candidate-end.ensures.0;
+      same = refl;
+      spent = omega arith;
+    }
 
 pub walk-preserved : goal.walk-preserved
 walk-preserved g c =
     let s = c.args.self.now in
-    let m = g.B.Book.meaning s.book in
-    let l = g.met.B.Book.lawful s.book in
-    let ch : ℕ → ℕ = chapter_of s.chapters in
-    let at = c.level.level in
-    let w = c.level.invariant.0 in
-    let size = level_size m ch c.args.levels.now c.requires.levels at w.within c.walk.level c.width.result c.subsets-size.result c.level.invariant.1 c.width.ensures c.subsets-size.ensures.0 in
-    let past = size_passed c.subsets-size.result (size_at m ch (levels m ch) at) c.level.candidate size c.level-test.false in
-    walk_back m l ch s.sixteen c.args.rows.now c.level.picks c.level.lowers at c.level.candidate c.level.count c.level.effort c.level.rows (walk_onto m l ch s.sixteen c.args.rows.now c.walk.picks c.walk.lowers c.walk.level c.walk.candidate c.walk.count c.walk.effort c.walk.rows c.walk.invariant
-    c.level.picks c.level.lowers at c.level.candidate c.level.count c.level.effort c.level.rows c.level.invariant.3 w) (omega (arith, c.if-level-eq0.false)) past
+    let m = g.B.Book.meaning (book_of s) in
+    let l = c.loop-candidate in
+    walk_back m (g.met.B.Book.lawful (book_of s)) (placing s) s.sixteen c.args.rows.now l.steps.items l.candidate c.in-Some.field-0.lower l.count l.effort l.rows l.invariant.at
+    (no_more m (placing s) (length l.steps.items) c.points_in-points.result c.subsets-candidate-end.result l.candidate l.invariant.level c.loop-candidate-test.false)
 
-pub returns-then-effort-gt65536 : goal.returns-then-effort-gt65536
-returns-then-effort-gt65536 g c =
+pub loop-candidate-preserved-then-not-is_stable_over : goal.loop-candidate-preserved-then-not-is_stable_over
+loop-candidate-preserved-then-not-is_stable_over g c =
     let s = c.args.self.now in
-    let m = g.B.Book.meaning s.book in
-    let l = g.met.B.Book.lawful s.book in
-    let ch : ℕ → ℕ = chapter_of s.chapters in
-    let at = c.level.level in
-    let w = c.level.invariant.0 in
-    let size = level_size m ch c.args.levels.now c.requires.levels at w.within c.walk.level c.width.result c.subsets-size.result c.level.invariant.1 c.width.ensures c.subsets-size.ensures.0 in
-    let more = size_reached c.subsets-size.result (size_at m ch (levels m ch) at) c.level.candidate size c.level-test.true in
-    walk_past m l ch s.sixteen c.args.rows.now c.level.picks c.level.lowers at c.level.candidate c.level.count c.level.effort c.level.rows (walk_onto m l ch s.sixteen c.args.rows.now c.walk.picks c.walk.lowers c.walk.level c.walk.candidate c.walk.count c.walk.effort c.walk.rows c.walk.invariant
-    c.level.picks c.level.lowers at c.level.candidate c.level.count c.level.effort c.level.rows c.level.invariant.3 w) more c.if-effort-gt65536.true
+    let m = g.B.Book.meaning (book_of s) in
+    let few = g.met.B.Book.lawful (book_of s) in
+    let l = c.loop-candidate in
+    let h = l.invariant in
+    let lower = c.in-Some.field-0.lower in
+    let points = c.points_in-points.result in
+    let size = c.subsets-candidate-end.result in
+    let tells =
+    told m few (placing s) s.sixteen c.args.rows.now l.steps.items l.candidate lower l.count l.effort l.rows h.at points c.spread-part.result size h.level
+    c.spread-part.ensures c.is_stable_over.result c.is_stable_over.ensures in
+    record {
+      at =
+          walk_miss m few (placing s) s.sixteen c.args.rows.now l.steps.items l.candidate lower l.count l.effort l.rows h.at
+          (one_more m (placing s) (length l.steps.items) points size l.candidate h.level c.loop-candidate-test.true)
+          (sym tells ∙ c.if-not-is_stable_over.true) (omega (arith, c.if-effort-gt-CEILING.false));
+      level = h.level;
+      same = h.same;
+      spent = omega (arith, h.spent);
+    }
 
-pub returns-then-level-eq0 : goal.returns-then-level-eq0
-returns-then-level-eq0 g c =
+pub loop-candidate-preserved : goal.loop-candidate-preserved
+loop-candidate-preserved g c =
     let s = c.args.self.now in
-    let m = g.B.Book.meaning s.book in
-    let l = g.met.B.Book.lawful s.book in
-    let ch : ℕ → ℕ = chapter_of s.chapters in
-    let at = c.level.level in
-    let w = c.level.invariant.0 in
-    let size = level_size m ch c.args.levels.now c.requires.levels at w.within c.walk.level c.width.result c.subsets-size.result c.level.invariant.1 c.width.ensures c.subsets-size.ensures.0 in
-    let past = size_passed c.subsets-size.result (size_at m ch (levels m ch) at) c.level.candidate size c.level-test.false in
-    walk_done m l ch s.sixteen c.args.rows.now c.level.picks c.level.lowers at c.level.candidate c.level.count c.level.effort c.level.rows (walk_onto m l ch s.sixteen c.args.rows.now c.walk.picks c.walk.lowers c.walk.level c.walk.candidate c.walk.count c.walk.effort c.walk.rows c.walk.invariant
-    c.level.picks c.level.lowers at c.level.candidate c.level.count c.level.effort c.level.rows c.level.invariant.3 w) c.if-level-eq0.true past
+    let m = g.B.Book.meaning (book_of s) in
+    let few = g.met.B.Book.lawful (book_of s) in
+    let l = c.loop-candidate in
+    let h = l.invariant in
+    let lower = c.in-Some.field-0.lower in
+    let points = c.points_in-points.result in
+    let size = c.subsets-candidate-end.result in
+    let tells =
+    told m few (placing s) s.sixteen c.args.rows.now l.steps.items l.candidate lower l.count l.effort l.rows h.at points c.spread-part.result size h.level
+    c.spread-part.ensures c.is_stable_over.result c.is_stable_over.ensures in
+    let is =
+    joined m few (placing s) s.sixteen c.args.rows.now l.steps.items l.candidate lower l.count l.effort l.rows h.at points c.spread-part.result size h.level
+    c.spread-part.ensures c.union-ruling.result c.union-ruling.ensures in
+    record {
+      at =
+          walk_hit m few (placing s) s.sixteen c.args.rows.now l.steps.items l.candidate lower l.count l.effort l.rows h.at
+          (one_more m (placing s) (length l.steps.items) points size l.candidate h.level c.loop-candidate-test.true)
+          (sym tells ∙ c.if-not-is_stable_over.false) c.union-ruling.result is
+          (let n = ap length c.levels-levels.ensures in omega (arith, c.if-len.false, c.len-in-loop-candidate.ensures.value, c.len-in-loop-candidate-2.ensures.value))
+          (omega (arith, c.if-effort-gt-CEILING.false)) c.insert_in_order.result c.insert_in_order.new.rows c.insert_in_order.auto.rows c.insert_in_order.ensures;
+      level = h.level;
+      same = h.same;
+      spent = omega (arith, h.spent);
+    }
+
+pub walk-preserved-then-len : goal.walk-preserved-then-len
+walk-preserved-then-len g c =
+    let s = c.args.self.now in
+    let m = g.B.Book.meaning (book_of s) in
+    let few = g.met.B.Book.lawful (book_of s) in
+    let l = c.loop-candidate in
+    let h = l.invariant in
+    let lower = c.in-Some.field-0.lower in
+    let points = c.points_in-points.result in
+    let size = c.subsets-candidate-end.result in
+    let tells =
+    told m few (placing s) s.sixteen c.args.rows.now l.steps.items l.candidate lower l.count l.effort l.rows h.at points c.spread-part.result size h.level
+    c.spread-part.ensures c.is_stable_over.result c.is_stable_over.ensures in
+    let is =
+    joined m few (placing s) s.sixteen c.args.rows.now l.steps.items l.candidate lower l.count l.effort l.rows h.at points c.spread-part.result size h.level
+    c.spread-part.ensures c.union-ruling.result c.union-ruling.ensures in
+    let aside : Step = record { first = l.candidate + 1; lower = lower } in
+    let next : Step = record { first = 0; lower = c.union-ruling.result } in
+    subst (λ (ss : List Step). Paused m (placing s) c.args.rows.now ss l.count (l.effort + 1) l.rows)
+    (sym (c.push-then-len-2.ensures.items ∙ ap₂ (λ (ss : List Step) (t : Step). ss ++ t ∷ []) c.push-then-len.ensures.items c.over-then-len.ensures))
+    (paused_at m (placing s) c.args.rows.now (l.steps.items ++ aside ∷ []) next l.count (l.effort + 1) l.rows
+    (walk_climb m few (placing s) s.sixteen c.args.rows.now l.steps.items l.candidate lower l.count l.effort l.rows h.at
+    (one_more m (placing s) (length l.steps.items) points size l.candidate h.level c.loop-candidate-test.true)
+    (sym tells ∙ c.if-not-is_stable_over.false) c.union-ruling.result is
+    (let n = ap length c.levels-levels.ensures in omega (arith, c.if-len.true, c.len-in-loop-candidate.ensures.value, c.len-in-loop-candidate-2.ensures.value))
+    (omega (arith, c.if-effort-gt-CEILING.false))))
+
+pub returns-then-effort-gt-CEILING : goal.returns-then-effort-gt-CEILING
+returns-then-effort-gt-CEILING g c =
+    let s = c.args.self.now in
+    let m = g.B.Book.meaning (book_of s) in
+    let l = c.loop-candidate in
+    walk_past m (g.met.B.Book.lawful (book_of s)) (placing s) s.sixteen c.args.rows.now l.steps.items l.candidate c.in-Some.field-0.lower l.count l.effort l.rows l.invariant.at
+    (one_more m (placing s) (length l.steps.items) c.points_in-points.result c.subsets-candidate-end.result l.candidate l.invariant.level c.loop-candidate-test.true) c.if-effort-gt-CEILING.true

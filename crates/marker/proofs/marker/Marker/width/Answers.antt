@@ -1,30 +1,32 @@
--- A point counts if it is in the chapter.
-use Rattle.std.proofs.Common.{◌≡◌, ℕ, ◌+◌, true, false, eqb, sym, ap, ◌∙◌, add-one, arith, eq-eqb, ne_eqb}
+-- The points counted are those of the chapter.
+use Rattle.std.proofs.Common.{◌≡◌, ℕ, zero, suc, ◌+◌, ◌-◌, eqb, filter, length, length-append, cond, Bool, true, false, ◌∷◌, [], ◌++◌, refl, ap, ◌∙◌, sym, add-one, arith, rules, tests}
+use Rattle.std.specs.List.{range_with_len}
+use Rattle.std.proofs.lemmas.Iterator.{YieldsList-from_range}
+use Rattle.std.proofs.lemmas.Iterator.Consumers.{YieldsList-from_filter, YieldsList-at, count_from_yields_List}
+use Rattle.std.proofs.lemmas.List.{map-id}
+use Rattle.std.proofs.lemmas.List.FromFn.{filter_of_map_range_with_len_more}
 use Rattle.rulings.specs.Points.{Points}
 use Rattle.semantics.specs.Listing.{count_below}
-use Rattle.semantics.proofs.Subsets.{count_yes, count_no}
-use Rattle.chapters.specs.Table.{chapter_of}
+use Rattle.marker.specs.State.{placing}
 use Rattle.marker.proofs.marker.Marker.width.Goals as goal
-use Rattle.marker.proofs.marker.Marker.width.Goals.{then-of-number, else-of-number}
 
-counted_in : (D : Points) (n k : ℕ) → D n ≡ true → k ≡ count_below n D → k + 1 ≡ count_below (n + 1) D
-counted_in D n k e h = omega (arith, count_yes D n e, ap (λ (i : ℕ). count_below i D) (add-one n))
+counted : (D : Points) (n : ℕ) → length (filter D (range_with_len 0 n)) ≡ count_below n D
+counted D zero = refl
+counted D (suc n) =
+    let more = filter_of_map_range_with_len_more D (λ k. k) 0 n n (omega arith) in
+    let pushed : filter D (range_with_len 0 (n + 1)) ≡ filter D (range_with_len 0 n) ++ cond (D n) (n ∷ []) [] = simp map-id at more in
+    ap (λ (k : ℕ). length (filter D (range_with_len 0 k))) (sym (add-one n)) ∙ (ap length pushed ∙ (length-append (filter D (range_with_len 0 n)) (cond (D n) (n ∷ []) []) ∙ last (D n) (counted D n)))
+  where
+    last : (t : Bool) → length (filter D (range_with_len 0 n)) ≡ count_below n D → length (filter D (range_with_len 0 n)) + length (cond t (n ∷ []) []) ≡ cond t 1 0 + count_below n D
+    last true e = omega arith
+    last false e = omega arith
 
-counted_out : (D : Points) (n k : ℕ) → D n ≡ false → k ≡ count_below n D → k ≡ count_below (n + 1) D
-counted_out D n k e h = omega (arith, count_no D n e, ap (λ (i : ℕ). count_below i D) (add-one n))
-
-pub loop-point-preserved : goal.loop-point-preserved
-loop-point-preserved g c =
-    let D : Points = λ a. eqb (chapter_of c.args.self.now.chapters a) c.args.number in
-    let n = c.loop-point.point in
-    let k = c.loop-point.count in
-    elim c.if-of-number.branch [
-      | then-of-number w ↦ (
-        omega (arith, w.count-is, c.loop-point.invariant.0),
-        w.count-is ∙ counted_in D n k (eq-eqb (chapter_of c.args.self.now.chapters n) c.args.number (sym c.of.ensures ∙ w.if-of-number.true)) c.loop-point.invariant.1,
-      )
-      | else-of-number w ↦ (
-        omega (arith, w.count-is, c.loop-point.invariant.0),
-        w.count-is ∙ counted_out D n k (ne_eqb (chapter_of c.args.self.now.chapters n) c.args.number (λ e. w.if-of-number.false (c.of.ensures ∙ e))) c.loop-point.invariant.1,
-      )
-    ]
+pub returns : goal.returns
+returns g c =
+    let s = c.args.self.now in
+    let D : Points = λ a. eqb (placing s a) c.args.number in
+    let size = c.size.result in
+    let least : size - 0 ≡ size = omega arith in
+    count_from_yields_List c.filter.result c.count.result c.count.ensures.ran
+    (YieldsList-from_filter _ D (YieldsList-at c.filter.ensures.source (YieldsList-from_range 0 size size refl least)) c.filter.ensures.closure (λ x r q k. search (rules, tests)))
+    ∙ (counted D size ∙ ap (λ (n : ℕ). count_below n D) c.size.ensures)

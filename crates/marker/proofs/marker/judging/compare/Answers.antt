@@ -7,7 +7,7 @@ use Rattle.marker.proofs.marker.judging.compare.Goals as goal
 pub returns-in-None : goal.returns-in-None
 returns-in-None c = fun_ext (λ a. no_difference (has c.args.ruling a) (has c.args.closure a) (c.in-None.ensures a))
 
-pub returns-else-has : goal.returns-else-has
-returns-else-has c =
+pub returns-in-Some-2 : goal.returns-in-Some-2
+returns-in-Some-2 c =
     let low = c.in-Some.ensures in
     (low, only_second (has c.args.ruling c.in-Some.point) (has c.args.closure c.in-Some.point) low.0 (sym c.if-has.ensures))

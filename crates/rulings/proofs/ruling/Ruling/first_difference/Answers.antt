@@ -1,23 +1,23 @@
 -- The first byte that differs, by its lowest digit.
-use Rattle.std.proofs.Common.{◌*◌, ap₂, inl, inr, arith}
-use mathlib.Core.Bool.{xor}
-use Rattle.std.proofs.lemmas.Bool.{cases_lt}
-use Rattle.rulings.proofs.Bytes.{has_past}
-use Rattle.rulings.proofs.Differences.{agree_below, lowest_differing}
+use Rattle.std.proofs.Common.{Some, None, ◌≡◌, ◌≢◌, rules, arith, subst, sym}
+use Rattle.std.proofs.lemmas.Iterator.{first_from_Range}
+use Rattle.rulings.specs.Points.{Lowest}
+use Rattle.rulings.specs.Rulings.{byte, differing}
+use Rattle.rulings.proofs.Differences.{all_alike, bytes_meet, lowest_differing}
 use Rattle.rulings.proofs.ruling.Ruling.first_difference.Goals as goal
 
-pub returns-in-Some : goal.returns-in-Some
-returns-in-Some c =
-    lowest_differing c.args.self c.args.other c.loop-i.i c.loop-i.invariant c.in-Some.k c.loop-i-test.true c.in-Some.ensures
+pub returns-in_err-place : goal.returns-in_err-place
+returns-in_err-place c =
+    let none = first_from_Range _ _ _ None (λ i. byte c.args.self i ≢ byte c.args.other i) (λ i. byte c.args.self i ≡ byte c.args.other i) c.in_err-place.ensures.ran (λ i q e. search rules) (λ i q e. search rules) in
+    subst (Lowest (differing c.args.self c.args.other)) (sym c.from_residual.ensures)
+    (all_alike c.args.self c.args.other (λ i h. none i (omega arith) h))
 
-pub loop-i-preserved : goal.loop-i-preserved
-loop-i-preserved c a h =
-    agree_below c.args.self c.args.other c.loop-i.i c.loop-i.invariant 8 (omega arith) (λ k _. c.in_default.ensures k) a (omega arith)
+pub returns-in_err-digit : goal.returns-in_err-digit
+returns-in_err-digit c =
+    let found = first_from_Range _ _ _ (Some c.in_ok-place.place) (λ i. byte c.args.self i ≢ byte c.args.other i) (λ i. byte c.args.self i ≡ byte c.args.other i) c.in_ok-place.ensures.ran (λ i q e. search rules) (λ i q e. search rules) in
+    absurd (found.2 (bytes_meet c.args.self c.args.other c.in_ok-place.place c.in_err-digit.ensures))
 
 pub returns : goal.returns
-unfolding xor
-returns c a =
-    elim (cases_lt a (c.loop-i.i * 8)) [
-      | inl h ↦ c.loop-i.invariant a h
-      | inr h ↦ ap₂ xor (has_past c.args.self a (omega arith)) (has_past c.args.other a (omega arith))
-    ]
+returns c =
+    let found = first_from_Range _ _ _ (Some c.in_ok-place.place) (λ i. byte c.args.self i ≢ byte c.args.other i) (λ i. byte c.args.self i ≡ byte c.args.other i) c.in_ok-place.ensures.ran (λ i q e. search rules) (λ i q e. search rules) in
+    lowest_differing c.args.self c.args.other c.in_ok-place.place c.in_ok-digit.digit found.1 (λ i h. found.3 i (omega arith) h) c.in_ok-digit.ensures

@@ -1,23 +1,16 @@
--- The code's test of one digit, and the digits of a byte from the eighth on.
-use Rattle.std.proofs.Common.{◌≡◌, ◌/◌, ◌^◌, false, sym, ◌∙◌, inl, inr, arith, below_more}
+use Rattle.std.proofs.Common.{◌≡◌, ℕ, ◌/◌, ◌^◌, true, false, bit_and, ◌==◌, sym, ap, rules, arith}
 use lib.Bits.{and_mask}
-use Rattle.std.proofs.lemmas.Bool.{cases_lt, eq-eqb, ne_eqb}
+use Rattle.std.proofs.lemmas.Iterator.{first_from_Range}
+use Rattle.rulings.specs.Points.{Points}
 use Rattle.rulings.specs.Rulings.{digit}
 use Rattle.rulings.proofs.Digits.{digit_past}
+use Rattle.rulings.proofs.Lowest.{lowest_found}
 use Rattle.rulings.proofs.ruling.lowest.lowest_digit.Goals as goal
 
-pub returns-then-byte-k-eq1 : goal.returns-then-byte-k-eq1
-returns-then-byte-k-eq1 c =
-    (eq-eqb _ 1 (sym (and_mask (c.args.byte / 2 ^ c.loop-k.k) 1) ∙ c.if-byte-k-eq1.true), c.loop-k.invariant)
-
-pub loop-k-preserved : goal.loop-k-preserved
-loop-k-preserved c =
-    below_more (λ j. digit c.args.byte j ≡ false) _ c.loop-k.invariant
-    (ne_eqb _ 1 (λ e. c.if-byte-k-eq1.false (and_mask (c.args.byte / 2 ^ c.loop-k.k) 1 ∙ e)))
-
 pub returns : goal.returns
-returns c a =
-    elim (cases_lt a c.loop-k.k) [
-      | inl h ↦ c.loop-k.invariant a h
-      | inr h ↦ digit_past 8 c.args.byte a c.ranges.byte.fits (omega arith)
-    ]
+returns c =
+    let byte : ℕ = c.args.byte in
+    let test : Points = λ k. bit_and (byte / 2 ^ k) 1 == 1 in
+    lowest_found (digit byte) test 0 8 (λ k h. ap (λ (n : ℕ). n == 1) (sym (and_mask (byte / 2 ^ k) 1))) (λ k h. absurd (omega arith))
+    (λ k h. digit_past 8 byte k c.ranges.byte.fits h) c.find.result
+    (first_from_Range _ _ _ _ (λ k. test k ≡ true) (λ k. test k ≡ false) c.find.ensures.ran (λ k q e. search rules) (λ k q e. search rules))

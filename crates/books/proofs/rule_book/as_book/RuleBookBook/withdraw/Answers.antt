@@ -1,11 +1,28 @@
 -- Entries taken out leave the book's own facts standing.
-use Rattle.std.proofs.Common.{not, sym, ap, ◌∙◌, arith}
-use Rattle.books.specs.Entries.{any, for_point, looks_at}
-use Rattle.books.specs.RuleBook.{entries}
-use Rattle.books.specs.Any.{any_kept_part}
+use Rattle.std.proofs.Common.{◌≡◌, ℕ, true, Bool, List, ◌<◌, ◌≤◌, length, ap, arith}
+use Rattle.std.specs.List.{filter}
+use Rattle.std.proofs.lemmas.List.Elements.{All-filter, All-same}
+use Rattle.std.proofs.lemmas.List.Sums.{length-filter, count_by-le-length}
+use Rattle.books.specs.declared.table.Entry.{Entry}
+use Rattle.books.specs.Entries.{standing, names}
 use Rattle.books.proofs.rule_book.as_book.RuleBookBook.withdraw.Goals as goal
 
-pub invariant_of-self : goal.invariant_of-self
-invariant_of-self c =
+no_longer : {X : Type 0} (p : X → Bool) (xs ys : List X) → ys ≡ filter p xs → length ys ≤ length xs
+no_longer p xs ys e = omega (arith, ap length e, length-filter p xs, count_by-le-length p xs)
+
+pub invariant_of-self-clause-room : goal.invariant_of-self-clause-room
+invariant_of-self-clause-room c =
     let b = c.args.self.now in
-    let after = c.remove.ensures.after in record { least = b.least; most = b.most; room = omega (arith, b.room, c.remove.ensures.count); heads = (λ a h. b.heads a (any_kept_part (for_point a) (λ e. not (for_point c.args.point e)) (entries b) (sym (ap (any (for_point a)) after) ∙ h))); bodies = (λ a d h. b.bodies a d (any_kept_part (looks_at a d) (λ e. not (for_point c.args.point e)) (entries b) (sym (ap (any (looks_at a d)) after) ∙ h))) }
+    omega (arith, no_longer _ (standing b.table) _ c.remove.ensures, b.room)
+
+pub invariant_of-self-clause-heads : goal.invariant_of-self-clause-heads
+invariant_of-self-clause-heads c =
+    let b = c.args.self.now in
+    let inside = λ (e : Entry). e.point < b.size in
+    All-same inside _ _ c.remove.ensures (All-filter _ inside _ b.heads)
+
+pub invariant_of-self-clause-bodies : goal.invariant_of-self-clause-bodies
+invariant_of-self-clause-bodies c =
+    let b = c.args.self.now in
+    let inside = λ (e : Entry). (d : ℕ) → names e d ≡ true → d < b.size in
+    All-same inside _ _ c.remove.ensures (All-filter _ inside _ b.bodies)

@@ -1,0 +1,2 @@
+-- The example book as it is written.
+pub mod Example
