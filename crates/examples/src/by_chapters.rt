@@ -16,6 +16,8 @@ fn by_chapter<B: Book>(
 ) -> Result<(), Fail> {
     let judged = marker.judge_by_chapter(Ruling::from_points(points))?;
     assert_eq!(rt; judged, ChapterVerdict::new(verdict, chapter));
+    assert_eq!(rt; judged.verdict(), verdict);
+    assert_eq!(rt; judged.chapter(), chapter);
     Ok(())
 }
 

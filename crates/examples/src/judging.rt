@@ -52,8 +52,12 @@ fn withdrawing_takes_every_entry_of_the_point(rt: HostRuntime) -> Result<(), Fai
     enter(&mut marker, 1, &[], &[])?;
     marker.withdraw(1)?;
     judged(&rt, &marker, &[0, 2, 3], Verdict::Stable)?;
-    // 0 stands, and nothing is entered for 1
-    judged(&rt, &marker, &[1], Verdict::Unfounded(1))
+    assert_eq!(rt;
+        marker.judge(Ruling::from_points(&[1]))?,
+        Verdict::Unfounded(1),
+        "0 stands, and nothing is entered for 1"
+    );
+    Ok(())
 }
 
 #[test]

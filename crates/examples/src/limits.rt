@@ -1,4 +1,5 @@
 // Calls at the limits of what the book takes.
+use crate::support::opened_book;
 use answers::{Fault, Layer, Refusal};
 use books::{Book, RuleBook};
 use rulings::Ruling;
@@ -6,12 +7,6 @@ use std::test::Fail;
 
 fn denied(refusal: Refusal) -> Result<(), Fault> {
     Err(Fault::new(Layer::Book, refusal))
-}
-
-fn opened(size: u8) -> Result<RuleBook, Fault> {
-    let mut book = RuleBook::new();
-    book.open(size)?;
-    Ok(book)
 }
 
 #[test]
@@ -28,7 +23,7 @@ fn sizes_from_1_to_128(rt: HostRuntime) {
 
 #[test]
 fn points_127_and_128(rt: HostRuntime) -> Result<(), Fail> {
-    let mut book = opened(128)?;
+    let mut book = opened_book(128)?;
     let none = Ruling::empty();
     assert_eq!(rt; book.enter(127, none, none), Ok(()));
     assert!(rt; book.derives(127, none, none));
@@ -45,7 +40,7 @@ fn points_127_and_128(rt: HostRuntime) -> Result<(), Fail> {
 
 #[test]
 fn stray_marks_of_both_rulings(rt: HostRuntime) -> Result<(), Fail> {
-    let mut book = opened(4)?;
+    let mut book = opened_book(4)?;
     let low = Ruling::from_points(&[0, 5]);
     let high = Ruling::from_points(&[3, 90]);
     assert_eq!(rt; book.enter(0, low, high), denied(Refusal::StrayMark(5)));
@@ -62,7 +57,7 @@ fn stray_marks_of_both_rulings(rt: HostRuntime) -> Result<(), Fail> {
 
 #[test]
 fn entries_256_and_257(rt: HostRuntime) -> Result<(), Fail> {
-    let mut book = opened(2)?;
+    let mut book = opened_book(2)?;
     let none = Ruling::empty();
     book.enter(1, none, none)?;
     for _ in 0..255 {

@@ -16,8 +16,11 @@ fn reads<B: Book>(
     let mut for_sure = Ruling::from_points(&[99]);
     let mut maybe = Ruling::from_points(&[98]);
     marker.read(&mut for_sure, &mut maybe)?;
-    assert_eq!(rt; for_sure, Ruling::from_points(sure));
-    assert_eq!(rt; maybe, Ruling::from_points(possible));
+    let (sure, possible) = (Ruling::from_points(sure), Ruling::from_points(possible));
+    assert_eq!(rt; for_sure, sure);
+    assert_eq!(rt; maybe, possible);
+    assert_eq!(rt; for_sure.first_difference(sure), None);
+    assert_eq!(rt; maybe.first_difference(possible), None);
     Ok(())
 }
 

@@ -150,25 +150,18 @@ fn buffers_of_1094_and_1095_bytes(rt: HostRuntime) -> Result<(), Fail> {
     let mut marker = Marker::new(RuleBook::new());
     let mut reader = Reader::new(&[8]);
     let mut short = [7u8; 1_094];
-    match reader.turn(&mut marker, &mut short) {
-        Err(fault) => assert_eq!(rt; fault, Fault::new(Layer::Reader, Refusal::ReplyTooShort)),
-        Ok(_) => return Err(Fail::new("the buffer is too short")),
-    }
+    assert_eq!(rt;
+        reader.turn(&mut marker, &mut short),
+        Err(Fault::new(Layer::Reader, Refusal::ReplyTooShort))
+    );
     assert_eq!(rt; short[0], 7, "nothing is written");
     let mut reply = [7u8; 1_095];
-    match reader.turn(&mut marker, &mut reply)? {
-        Some(length) => assert_eq!(rt; length, 24),
-        None => return Err(Fail::new("the record was lost")),
-    }
+    assert_eq!(rt; reader.turn(&mut marker, &mut reply)?, Some(24));
     assert_eq!(rt; reply[0], 0x84);
     assert_eq!(rt; reply[24], 7, "behind the reply the buffer is as found");
-    match reader.turn(&mut marker, &mut reply)? {
-        None => {
-            assert_eq!(rt; reply[0], 0x84);
-            Ok(())
-        },
-        Some(_) => Err(Fail::new("there was one record")),
-    }
+    assert_eq!(rt; reader.turn(&mut marker, &mut reply)?, None);
+    assert_eq!(rt; reply[0], 0x84);
+    Ok(())
 }
 
 #[test]

@@ -51,17 +51,13 @@ fn every_call_is_answered_in_its_place(rt: HostRuntime) -> Result<(), Fail> {
     ];
     let answers = replay(&mut marker, &calls, rt.alloc())?;
     assert_eq!(rt; answers.len(), 4);
-    match &answers[0] {
-        Err(fault) => assert_eq!(rt; *fault, Fault::new(Layer::Book, Refusal::BadSize)),
-        _ => return Err(Fail::new("the opening was not denied")),
-    }
-    match &answers[2] {
-        Ok(Answer::Verdict(verdict)) => assert_eq!(rt; *verdict, Verdict::Missing(0)),
-        _ => return Err(Fail::new("no verdict")),
-    }
-    let rows = listed(&answers, 3)?;
-    assert_eq!(rt; rows.len(), 1);
-    assert_eq!(rt; rows[0], Ruling::from_points(&[0]));
+    assert_eq!(rt;
+        answers[0].as_ref().err(),
+        Some(&Fault::new(Layer::Book, Refusal::BadSize))
+    );
+    assert!(rt; matches!(answers[2], Ok(Answer::Verdict(Verdict::Missing(0)))));
+    let only = [Ruling::from_points(&[0])];
+    assert_eq!(rt; listed(&answers, 3)?, only.as_slice());
     Ok(())
 }
 
@@ -72,9 +68,8 @@ fn two_sorts_of_book_with_the_same_stable_rulings(rt: HostRuntime) -> Result<(),
     let calls = mutual();
     let compared = compare(&mut rules, &calls, &mut protests, &calls, rt.alloc())?;
     let rows = listed(&compared.first, 3)?;
-    assert_eq!(rt; rows.len(), 2);
-    assert_eq!(rt; rows[0], Ruling::from_points(&[0]));
-    assert_eq!(rt; rows[1], Ruling::from_points(&[1]));
-    assert!(rt; rows == listed(&compared.second, 3)?);
+    let either = [Ruling::from_points(&[0]), Ruling::from_points(&[1])];
+    assert_eq!(rt; rows, either.as_slice());
+    assert_eq!(rt; rows, listed(&compared.second, 3)?);
     Ok(())
 }

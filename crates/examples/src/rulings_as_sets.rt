@@ -19,6 +19,17 @@ fn set_operations(rt: HostRuntime) {
     let low = Ruling::from_points(&[0, 1, 64]);
     let high = Ruling::from_points(&[1, 64, 65]);
     assert_eq!(rt; low.first_difference(high), Some(0));
+    assert_eq!(rt; low.first_difference(low), None);
+    assert_eq!(rt;
+        low.difference(high)
+            .first_difference(Ruling::from_points(&[0])),
+        None
+    );
+    assert_eq!(rt;
+        low.union(high)
+            .first_difference(Ruling::from_points(&[0, 1, 64, 65])),
+        None
+    );
     assert_eq!(rt; low.difference(high), Ruling::from_points(&[0]));
     assert_eq!(rt; low.union(high), Ruling::from_points(&[0, 1, 64, 65]));
     assert!(rt; !low.is_part_of(high));

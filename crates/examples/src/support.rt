@@ -4,11 +4,16 @@ use books::{Book, ProtestBook, RuleBook};
 use marker::Marker;
 use telling::{Rule, open_example};
 
-// A marker over a rule book of so many points.
+// A rule book of so many points.
+pub(crate) fn opened_book(size: u8) -> Result<RuleBook, Fault> {
+    let mut book = RuleBook::new();
+    book.open(size)?;
+    Ok(book)
+}
+
+// A marker over such a rule book.
 pub(crate) fn opened(size: u8) -> Result<Marker<RuleBook>, Fault> {
-    let mut marker = Marker::new(RuleBook::new());
-    marker.open(size)?;
-    Ok(marker)
+    opened_book(size).map(Marker::new)
 }
 
 // 0 if not 1; 1 if not 0; 2 if 0; 3 if 2 and not 1

@@ -5,6 +5,7 @@ use reader::Unreadable;
 use rulings::Ruling;
 use runs::{Answer, Call};
 use std::io;
+use telling::say::rulings;
 
 // A sort of book, by how an entering is said.
 pub(crate) trait SayEntry {
@@ -87,10 +88,7 @@ pub(crate) fn answer(rt: &HostRuntime, answer: &Result<Answer, Fault>) -> io::Re
 fn listing(rt: &HostRuntime, rows: &[Ruling], effort: u32) -> io::Result<()> {
     count(rt, rows.len(), "ruling")?;
     print!(rt; ", effort {effort}:")?;
-    for row in rows {
-        print!(rt; " {row}")?;
-    }
-    println!(rt; "")
+    rulings(rt, rows)
 }
 
 // As in `1 upward reading: point 0 reads point 1, 1 up`.

@@ -2,10 +2,10 @@
 use crate::expected::Expected;
 use crate::masks::Mask;
 use crate::placements::Placement;
-use crate::saying::{Answer, Call, Reading, Said};
+use crate::saying::{Answer, Call, Said};
 use crate::small_book::{Case, SmallBook};
 use crate::tally::Tally;
-use crate::whole::Whole;
+use crate::whole::{Model, Whole};
 use books::Book;
 use marker::Marker;
 use rulings::Ruling;
@@ -41,7 +41,7 @@ impl<B: Book + Drop> Trial<B> {
 
     // The book in each placement of its points in chapters 0 and 1.
     pub(crate) fn try_in_two_chapters<S: SmallBook>(&mut self, book: &S) -> Result<(), AllocError> {
-        self.tally.add_book();
+        self.tally.count(|counts| &mut counts.books);
         let whole = Whole::of(self.heap, book)?;
         let size = book.size();
         for upper in Mask::sets(size) {
@@ -57,7 +57,7 @@ impl<B: Book + Drop> Trial<B> {
         book: &S,
         placement: Placement,
     ) -> Result<(), AllocError> {
-        self.tally.add_book();
+        self.tally.count(|counts| &mut counts.books);
         let whole = Whole::of(self.heap, book)?;
         self.compare_case(&Case { book, placement }, &whole)
     }
@@ -68,7 +68,7 @@ impl<B: Book + Drop> Trial<B> {
         case: &Case<S>,
         whole: &Whole,
     ) -> Result<(), AllocError> {
-        self.tally.add_case();
+        self.tally.count(|counts| &mut counts.cases);
         if let Err(fault) = case.fill(&mut self.marker) {
             return self
                 .tally
@@ -103,7 +103,7 @@ impl<B: Book + Drop> Trial<B> {
     // Judges every ruling, whole and by chapter.
     fn compare_judgings<S: SmallBook>(&mut self, expected: &Expected<S>) -> Result<(), AllocError> {
         for ruling in Mask::sets(expected.case.book.size()) {
-            self.tally.add_ruling();
+            self.tally.count(|counts| &mut counts.rulings);
             let judged = self.judge(ruling);
             self.tally.compare(
                 expected.case,
@@ -136,6 +136,6 @@ impl<B: Book + Drop> Trial<B> {
         let mut sure = Ruling::empty();
         let mut possible = Ruling::empty();
         self.marker.read(&mut sure, &mut possible)?;
-        Ok(Said::Reading(Some(Reading { sure, possible })))
+        Ok(Said::Reading(Some(Model { sure, possible })))
     }
 }

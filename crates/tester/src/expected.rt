@@ -1,10 +1,10 @@
 // What the definitions say that the calls of a marker are to answer.
 use crate::masks::Mask;
 use crate::parts::Parts;
-use crate::saying::{Answer, Reading, Said};
+use crate::saying::{Answer, Said};
 use crate::small_book::{Case, SmallBook};
 use crate::upward;
-use crate::whole::Whole;
+use crate::whole::{Model, Whole};
 use answers::{Fault, Layer, Refusal, UpwardReading};
 use rulings::Ruling;
 use std::alloc::{AllocError, Global};
@@ -81,7 +81,7 @@ impl<'a, S: SmallBook> Expected<'a, S> {
     // The well-founded model of the book read whole, whatever the chapters.
     pub(crate) fn read(&self) -> Answer {
         self.parts()?;
-        Ok(Said::Reading(self.whole.well_founded().map(Reading::from)))
+        Ok(Said::Reading(self.whole.well_founded().map(Model::from)))
     }
 }
 

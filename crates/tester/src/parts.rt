@@ -83,7 +83,7 @@ fn judge<S: SmallBook>(case: &Case<S>, ruling: Mask) -> Option<ChapterVerdict> {
             return Some(ChapterVerdict::new(found, Some(chapter)));
         }
     }
-    Some(ChapterVerdict::new(Verdict::Stable, None))
+    Some(ChapterVerdict::from(Verdict::Stable))
 }
 
 // Compares the part of a ruling in a chapter with its closure there, over the ruling's own part below.

@@ -5,6 +5,7 @@ use answers::Fault;
 use books::Book;
 use marker::Marker;
 use std::fmt;
+use telling::Rule;
 
 // The point stands if all supporters do and no striker does.
 #[derive(Clone, Copy)]
@@ -12,6 +13,17 @@ pub(crate) struct SmallEntry {
     pub(crate) point: u8,
     pub(crate) supporters: Mask,
     pub(crate) strikers: Mask,
+}
+
+// The rule as it is entered and told.
+impl From<SmallEntry> for Rule {
+    fn from(entry: SmallEntry) -> Rule {
+        Rule {
+            point: entry.point,
+            supporters: entry.supporters.into(),
+            strikers: entry.strikers.into(),
+        }
+    }
 }
 
 #[derive(Drop)]
@@ -48,16 +60,9 @@ impl SmallBook for SmallRuleBook {
 
     fn enter_into<B: Book>(&self, marker: &mut Marker<B>) -> Result<(), Fault> {
         for entry in &self.entries {
-            marker.enter(entry.point, entry.supporters.into(), entry.strikers.into())?;
+            Rule::from(*entry).enter_into(marker)?;
         }
         Ok(())
-    }
-}
-
-impl fmt::Display for SmallEntry {
-    fn fmt<W: fmt::Write>(&self, f: &mut fmt::Formatter<W>) -> fmt::Result {
-        let (point, supporters, strikers) = (self.point, self.supporters, self.strikers);
-        write!(f, "{point} if all of {supporters} and none of {strikers}")
     }
 }
 
@@ -66,7 +71,8 @@ impl fmt::Display for SmallRuleBook {
         let size = self.size;
         write!(f, "rule book of size {size}")?;
         for entry in &self.entries {
-            write!(f, "; {entry}")?;
+            let rule = Rule::from(*entry);
+            write!(f, "; {rule}")?;
         }
         Ok(())
     }

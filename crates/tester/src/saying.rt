@@ -39,28 +39,13 @@ pub(crate) enum Said {
     Done,
     Judged(Option<Verdict>),
     JudgedByChapter(Option<ChapterVerdict>),
-    Reading(Option<Reading>),
+    Reading(Option<Model<Ruling>>),
     Listing { rows: usize, effort: usize },
     Audited(usize),
     Row(Ruling),
     AuditRow(UpwardReading),
     Set(Option<Mask>),
     Holds(bool),
-}
-
-#[derive(Clone, Copy, PartialEq, Eq)]
-pub(crate) struct Reading {
-    pub(crate) sure: Ruling,
-    pub(crate) possible: Ruling,
-}
-
-impl From<Model> for Reading {
-    fn from(model: Model) -> Reading {
-        Reading {
-            sure: model.sure.into(),
-            possible: model.possible.into(),
-        }
-    }
 }
 
 pub(crate) fn words(answer: Answer, heap: Global) -> Result<String, AllocError> {
@@ -115,7 +100,7 @@ impl fmt::Display for Said {
             Said::Judged(None) | Said::JudgedByChapter(None) => write!(f, "without a closure"),
             Said::Judged(Some(verdict)) => write!(f, "{verdict}"),
             Said::JudgedByChapter(Some(judged)) => write_by_chapter(f, judged),
-            Said::Reading(Some(Reading { sure, possible })) => {
+            Said::Reading(Some(Model { sure, possible })) => {
                 write!(f, "sure {sure}, possible {possible}")
             }
             Said::Listing { rows, effort } => write!(f, "{rows} rulings, effort {effort}"),

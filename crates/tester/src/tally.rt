@@ -67,22 +67,18 @@ impl Tally {
         &self.told
     }
 
-    pub(crate) fn add_book(&mut self) {
-        self.counts.books = self.counts.books.saturating_add(1);
-    }
-
-    pub(crate) fn add_case(&mut self) {
-        self.counts.cases = self.counts.cases.saturating_add(1);
+    // One more of what is counted.
+    pub(crate) fn count<F: FnOnce(&mut Counts) -> &mut u64>(&mut self, counted: F)
+        requires { F.IsAlwaysCallable counted }
+    {
+        let counted = counted(&mut self.counts);
+        *counted = counted.saturating_add(1);
     }
 
     // The chapters of a case fit, and a listing is to find so many rulings.
     pub(crate) fn add_fitting(&mut self, listed: usize) {
-        self.counts.fitting = self.counts.fitting.saturating_add(1);
+        self.count(|counts| &mut counts.fitting);
         self.counts.listed = self.counts.listed.saturating_add(listed as u64);
-    }
-
-    pub(crate) fn add_ruling(&mut self) {
-        self.counts.rulings = self.counts.rulings.saturating_add(1);
     }
 
     pub(crate) fn compare<S: SmallBook>(
@@ -92,11 +88,11 @@ impl Tally {
         expected: Answer,
         found: Answer,
     ) -> Result<(), AllocError> {
-        self.counts.comparisons = self.counts.comparisons.saturating_add(1);
+        self.count(|counts| &mut counts.comparisons);
         if expected == found {
             return Ok(());
         }
-        self.counts.differences = self.counts.differences.saturating_add(1);
+        self.count(|counts| &mut counts.differences);
         if self.told.len() < TOLD {
             let expected = words(expected, self.heap)?;
             let found = words(found, self.heap)?;

@@ -10,14 +10,10 @@ pub(crate) fn readings<S: SmallBook>(
     case: &Case<S>,
 ) -> Result<Vec<UpwardReading>, AllocError> {
     let size = case.book.size();
-    let mut readings = Vec::new(heap);
-    for reader in 0..size {
-        for read in 0..size {
-            if let Some(reading) = reading(case, reader, read) {
-                readings.push(reading)?;
-            }
-        }
-    }
+    let mut readings: Vec<UpwardReading> = (0..size)
+        .flat_map(|reader| (0..size).map(move |read| (reader, read)))
+        .filter_map(|(reader, read)| reading(case, reader, read))
+        .collect(heap)?;
     readings.sort_by_key(|reading| (Reverse(reading.drop), reading.reader, reading.read))?;
     Ok(readings)
 }

@@ -38,16 +38,17 @@ impl Family for SmallRuleBook {
         reach: Reach,
     ) -> Result<SmallRuleBook, AllocError> {
         let size = placement.size();
-        let mut entries = Vec::new(heap);
-        for _ in 0..draws.below(13) {
-            let point = draws.below(size);
-            let readable = reach.readable(placement, point);
-            entries.push(SmallEntry {
-                point,
-                supporters: draws.some_of(readable),
-                strikers: draws.some_of(readable),
-            })?;
-        }
+        let entries = (0..draws.below(13))
+            .map(|_| {
+                let point = draws.below(size);
+                let readable = reach.readable(placement, point);
+                SmallEntry {
+                    point,
+                    supporters: draws.some_of(readable),
+                    strikers: draws.some_of(readable),
+                }
+            })
+            .collect(heap)?;
         Ok(SmallRuleBook::new(size, entries))
     }
 
@@ -65,17 +66,14 @@ fn with_entries(
 }
 
 fn every_entry(heap: Global, size: u8) -> Result<Vec<SmallEntry>, AllocError> {
-    let mut entries = Vec::new(heap);
-    for point in 0..size {
-        for supporters in Mask::sets(size) {
-            for strikers in Mask::sets(size) {
-                entries.push(SmallEntry {
-                    point,
-                    supporters,
-                    strikers,
-                })?;
-            }
-        }
-    }
-    Ok(entries)
+    (0..size)
+        .flat_map(|point| Mask::sets(size).map(move |supporters| (point, supporters)))
+        .flat_map(|(point, supporters)| {
+            Mask::sets(size).map(move |strikers| SmallEntry {
+                point,
+                supporters,
+                strikers,
+            })
+        })
+        .collect(heap)
 }
