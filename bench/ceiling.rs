@@ -17,6 +17,16 @@ impl Ruling {
         ruling
     }
 
+    fn points_where(size: u8, test: impl Fn(u8) -> bool) -> Ruling {
+        let mut ruling = Ruling::EMPTY;
+        for point in 0..size.min(128) {
+            if test(point) {
+                ruling.insert(point);
+            }
+        }
+        ruling
+    }
+
     fn has(self, point: u8) -> bool {
         point < 128 && (self.bytes[(point >> 3) as usize] >> (point & 7)) & 1 == 1
     }
@@ -27,42 +37,61 @@ impl Ruling {
         }
     }
 
-    fn union(mut self, other: Ruling) -> Ruling {
-        for i in 0..16 {
-            self.bytes[i] |= other.bytes[i];
-        }
-        self
+    fn first_from(self, start: u8) -> Option<u8> {
+        (start..128).find(|&point| self.has(point))
     }
 
-    fn intersection(mut self, other: Ruling) -> Ruling {
-        for i in 0..16 {
-            self.bytes[i] &= other.bytes[i];
-        }
-        self
+    fn points(self) -> Points {
+        Points { ruling: self, next: 0 }
+    }
+
+    fn combined(self, other: Ruling, operator: impl Fn(u8, u8) -> u8) -> Ruling {
+        let bytes = std::array::from_fn(|i| operator(self.bytes[i], other.bytes[i]));
+        Ruling { bytes }
+    }
+
+    fn union(self, other: Ruling) -> Ruling {
+        self.combined(other, |mine, theirs| mine | theirs)
+    }
+
+    fn intersection(self, other: Ruling) -> Ruling {
+        self.combined(other, |mine, theirs| mine & theirs)
+    }
+
+    fn difference(self, other: Ruling) -> Ruling {
+        self.combined(other, |mine, theirs| mine & !theirs)
     }
 
     fn is_part_of(self, other: Ruling) -> bool {
-        (0..16).all(|i| self.bytes[i] & !other.bytes[i] == 0)
+        self.difference(other) == Ruling::EMPTY
     }
 
     fn is_disjoint_from(self, other: Ruling) -> bool {
-        (0..16).all(|i| self.bytes[i] & other.bytes[i] == 0)
+        self.intersection(other) == Ruling::EMPTY
+    }
+}
+
+struct Points {
+    ruling: Ruling,
+    next: u8,
+}
+
+impl Iterator for Points {
+    type Item = u8;
+
+    fn next(&mut self) -> Option<u8> {
+        let point = self.ruling.first_from(self.next)?;
+        self.next = point + 1;
+        Some(point)
     }
 }
 
 impl fmt::Display for Ruling {
     fn fmt(&self, f: &mut fmt::Formatter) -> fmt::Result {
-        write!(f, "{{")?;
-        let mut first = true;
-        for point in (0..128).filter(|&point| self.has(point)) {
-            write!(f, "{}{point}", if first { "" } else { ", " })?;
-            first = false;
-        }
-        write!(f, "}}")
+        f.debug_set().entries(self.points()).finish()
     }
 }
 
-#[derive(Clone, Copy)]
 struct Entry {
     point: u8,
     supporters: Ruling,
@@ -71,36 +100,38 @@ struct Entry {
 
 struct Book {
     size: u8,
-    entries: [Entry; 256],
-    count: usize,
+    entries: Vec<Entry>,
 }
 
 impl Book {
     fn new(size: u8) -> Book {
-        let free = Entry { point: 0, supporters: Ruling::EMPTY, strikers: Ruling::EMPTY };
-        Book { size, entries: [free; 256], count: 0 }
+        Book { size, entries: Vec::with_capacity(256) }
     }
 
     fn enter(&mut self, point: u8, supporters: &[u8], strikers: &[u8]) {
-        self.entries[self.count] = Entry {
+        self.entries.push(Entry {
             point,
             supporters: Ruling::from_points(supporters),
             strikers: Ruling::from_points(strikers),
-        };
-        self.count += 1;
+        });
     }
 
     fn derives(&self, point: u8, x: Ruling, y: Ruling) -> bool {
-        self.entries[..self.count].iter().any(|e| {
+        self.entries.iter().any(|e| {
             e.point == point && e.supporters.is_part_of(x) && e.strikers.is_disjoint_from(y)
         })
     }
 
     fn reads(&self, point: u8, other: u8) -> bool {
-        self.entries[..self.count]
+        self.entries
             .iter()
             .any(|e| e.point == point && (e.supporters.has(other) || e.strikers.has(other)))
     }
+}
+
+struct Step {
+    first: u16,
+    lower: Ruling,
 }
 
 struct Marker {
@@ -118,40 +149,27 @@ impl Marker {
     }
 
     fn points_in(&self, chapter: u8) -> Ruling {
-        let mut points = Ruling::EMPTY;
-        for point in 0..self.book.size {
-            if self.chapters[point as usize] == chapter {
-                points.insert(point);
-            }
-        }
-        points
+        Ruling::points_where(self.book.size, |point| self.chapters[point as usize] == chapter)
     }
 
-    fn width(&self, chapter: u8) -> u8 {
-        (0..self.book.size).filter(|&a| self.chapters[a as usize] == chapter).count() as u8
+    fn width(&self, chapter: u8) -> usize {
+        (0..self.book.size).filter(|&a| self.chapters[a as usize] == chapter).count()
+    }
+
+    fn derives_in(&self, points: Ruling, lower: Ruling, point: u8, x: Ruling, y: Ruling) -> bool {
+        points.has(point)
+            && self.book.derives(
+                point,
+                lower.union(points.intersection(x)),
+                lower.union(points.intersection(y)),
+            )
     }
 
     fn closure(&self, points: Ruling, lower: Ruling, y: Ruling) -> Ruling {
-        let mut x = Ruling::EMPTY;
-        for _ in 0..self.book.size {
-            let mut next = Ruling::EMPTY;
-            for point in 0..self.book.size {
-                if points.has(point)
-                    && self.book.derives(
-                        point,
-                        lower.union(points.intersection(x)),
-                        lower.union(points.intersection(y)),
-                    )
-                {
-                    next.insert(point);
-                }
-            }
-            if next.is_part_of(x) {
-                return x;
-            }
-            x = next;
-        }
-        x
+        let size = self.book.size;
+        climb(size, |x| {
+            Ruling::points_where(size, |point| self.derives_in(points, lower, point, x, y))
+        })
     }
 
     fn list(&self, rows: &mut [Ruling]) -> Option<(usize, u32)> {
@@ -159,69 +177,66 @@ impl Marker {
             return None;
         }
         let levels: Vec<u8> = (0..16).filter(|&chapter| self.width(chapter) > 0).collect();
-        let mut picks = [0u16; 16];
-        let mut lowers = [Ruling::EMPTY; 16];
-        let (mut level, mut candidate) = (0, 0);
+        let mut steps = Vec::with_capacity(16);
+        steps.push(Step { first: 0, lower: Ruling::EMPTY });
         let (mut count, mut effort) = (0, 0);
-        'walk: loop {
-            let points = self.points_in(levels[level]);
-            let size = 1u16 << self.width(levels[level]);
-            while candidate < size {
+        'walk: while let Some(Step { first, lower }) = steps.pop() {
+            let number = levels[steps.len()];
+            let points = self.points_in(number);
+            for candidate in first..1 << self.width(number) {
                 effort += 1;
                 if effort > 65_536 {
                     return None;
                 }
                 let part = spread(points, candidate);
-                let closure = self.closure(points, lowers[level], part);
-                let stable = part.is_part_of(closure) && closure.is_part_of(part);
-                picks[level] = candidate;
-                if stable && level + 1 < levels.len() {
-                    lowers[level + 1] = lowers[level].union(part);
-                    level += 1;
-                    candidate = 0;
+                if part != self.closure(points, lower, part) {
+                    continue;
+                }
+                let ruling = lower.union(part);
+                if steps.len() + 1 < levels.len() {
+                    steps.push(Step { first: candidate + 1, lower });
+                    steps.push(Step { first: 0, lower: ruling });
                     continue 'walk;
                 }
-                if stable {
-                    insert_in_order(rows, count, lowers[level].union(part));
-                    count += 1;
-                }
-                candidate += 1;
+                insert_in_order(rows, count, ruling);
+                count += 1;
             }
-            if level == 0 {
-                break;
-            }
-            level -= 1;
-            candidate = picks[level] + 1;
         }
         (count <= rows.len()).then_some((count, effort))
     }
 }
 
+fn climb(turns: u8, step: impl Fn(Ruling) -> Ruling) -> Ruling {
+    let mut x = Ruling::EMPTY;
+    for _ in 0..turns {
+        let next = step(x);
+        if next.is_part_of(x) {
+            return x;
+        }
+        x = next;
+    }
+    x
+}
+
 fn spread(points: Ruling, number: u16) -> Ruling {
     let mut subset = Ruling::EMPTY;
-    let mut digits = number;
-    for point in 0..128 {
-        if points.has(point) {
-            if digits % 2 == 1 {
-                subset.insert(point);
-            }
-            digits /= 2;
+    for (point, digit) in points.points().zip(0..16u8) {
+        if (number >> digit) & 1 == 1 {
+            subset.insert(point);
         }
     }
     subset
 }
 
-fn insert_in_order(rows: &mut [Ruling], count: usize, row: Ruling) -> bool {
+fn insert_in_order(rows: &mut [Ruling], count: usize, row: Ruling) -> Option<usize> {
     if count >= rows.len() {
-        return false;
+        return None;
     }
-    let mut place = count;
-    while place > 0 && row < rows[place - 1] {
-        rows[place] = rows[place - 1];
-        place -= 1;
-    }
+    let behind = rows[..count].iter().rev().take_while(|later| row < **later).count();
+    let place = count - behind;
+    rows.copy_within(place..count, place + 1);
     rows[place] = row;
-    true
+    Some(count + 1)
 }
 
 fn main() {
@@ -247,7 +262,7 @@ fn main() {
         }
         first += width;
     }
-    while marker.book.count < 256 {
+    while marker.book.entries.len() < 256 {
         marker.book.enter(8, &[3, 6], &[]);
     }
     let mut rows = [Ruling::EMPTY; 64];

@@ -8,7 +8,7 @@ program=crates/ceiling/out/ceiling
 [ -x "$program" ] || (cd crates/ceiling && rt run >/dev/null)
 made=$(mktemp -d)
 trap 'rm -rf "$made"' EXIT
-rustc --edition 2021 -C opt-level=3 -o "$made/plain" bench/ceiling.rs
+rustc --edition 2021 -C opt-level=3 -C target-cpu=x86-64-v2 -o "$made/plain" bench/ceiling.rs
 "$program" >"$made/proved.out"
 "$made/plain" >"$made/plain.out"
 cmp "$made/proved.out" "$made/plain.out" || { echo "the two programs do not print the same" >&2; exit 1; }

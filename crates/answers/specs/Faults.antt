@@ -1,4 +1,4 @@
--- The numbers and the places of refusals, and the numbers of layers.
+-- Refusals: their numbers, their words and the places that they name. The numbers of layers, and faults.
 use Rattle.std.specs.Prelude.{ℕ, List, Some, None, codes, Option}
 use Rattle.answers.specs.declared.fault.Refusal.{Refusal}
 use Rattle.answers.specs.declared.fault.Refusal.TheVariants.{BadSize, NoSuchPoint, StrayMark, NoSupportersHere, BookFull, NothingEntered, NoSuchChapter, ReadsUpward, ChapterTooWide, TooMuchToTry, ListTooShort, InputTooLong, ReplyTooShort, UnknownRecord, CutRecord}
@@ -42,7 +42,7 @@ word ReplyTooShort = codes "reply too short"
 word UnknownRecord = codes "unknown record"
 word CutRecord = codes "cut record"
 
--- the two places that a refusal names
+-- the places that a refusal names, none, one or two
 abbrev pub places : Refusal → Option ℕ × Option ℕ
 places BadSize = (None, None)
 places (NoSuchPoint a) = (Some a, None)
@@ -66,6 +66,6 @@ layer_number Book = 1
 layer_number Marker = 2
 layer_number Reader = 3
 
--- the fault of a layer for a refusal
+-- the fault by which a layer denies with a refusal
 abbrev pub fault_of : Layer → Refusal → Fault
 fault_of l r = record { refusal = r; layer = l }

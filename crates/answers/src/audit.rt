@@ -49,7 +49,9 @@ impl PartialOrd for UpwardReading {
 impl Row for UpwardReading {
     ghost before = { AuditedBefore };
 
-    ghost ordered = { audit_ordered };
-
     ghost strict = { audit_order };
+
+    fn comes_before(self, other: UpwardReading) -> bool {
+        self < other
+    }
 }

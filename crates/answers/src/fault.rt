@@ -2,6 +2,7 @@
 ghost use Rattle.std.specs.Prelude.{◌≡◌};
 ghost use Rattle.answers.specs.Faults.{number, word, places, layer_number, fault_of};
 
+mod checks;
 mod of_refusal;
 pub mod words;
 

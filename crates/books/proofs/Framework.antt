@@ -1,26 +1,28 @@
--- The stable sets of a protest book are the stable extensions of its framework, and its sure points the grounded extension.
+-- The stable sets of a protest book are the stable extensions of its framework, and what is sure in it is the grounded extension.
 use Rattle.std.proofs.Common.{◌≡◌, ℕ, Bool, true, false, ◌&&◌, ◌↔◌, sym, refl, ◌∙◌}
+use Rattle.std.proofs.lemmas.Bool.{and_parts, and_from, false_from_ne_true}
 use Rattle.rulings.specs.Points.{Points, Part, Disjoint}
 use Rattle.semantics.specs.Closure.{IsClosure, Stable}
 use Rattle.semantics.specs.WellFounded.{Alternates, WellFounded}
-use Rattle.semantics.proofs.Tests.{false_is_not_true, and_both, and_of, not_true}
+use Rattle.semantics.proofs.Tests.{false_is_not_true}
+use Rattle.semantics.proofs.Closures.{shrinks}
 use Rattle.books.specs.declared.protest_book.ProtestBook.{ProtestBook}
 use Rattle.books.specs.Entries.{avoids}
 use Rattle.books.specs.Framework.{StableExtension, Defends, DefendsItself, GroundedExtension, framework_of}
 use Rattle.books.specs.ProtestBook.{lodged, protesters, protest_meaning}
-use Rattle.books.specs.EntriesLemmas.{avoids_not}
-use Rattle.books.specs.Protests.{stands_use, stands_of}
+use Rattle.books.specs.Protests.{stands_use, stands_of, protests_lawful}
+use Rattle.books.proofs.Conditions.{avoids_not}
 
 module _ (b : ProtestBook) where
   -- an attack, in words
   attacks_use : (a c : ℕ) → (framework_of b).attacks a c ≡ true → (lodged b a ≡ true) × (lodged b c ≡ true) × (protesters b c a ≡ true)
   attacks_use a c h =
-      let p = and_both (lodged b a) _ h in
-      let q = and_both (lodged b c) _ p.1 in
+      let p = and_parts (lodged b a) _ h in
+      let q = and_parts (lodged b c) _ p.1 in
       (p.0, q.0, q.1)
 
   attacks_of : (a c : ℕ) → lodged b a ≡ true → lodged b c ≡ true → protesters b c a ≡ true → (framework_of b).attacks a c ≡ true
-  attacks_of a c la lc p = and_of _ _ la (and_of _ _ lc p)
+  attacks_of a c la lc p = and_from _ _ la (and_from _ _ lc p)
 
   -- a lodged point that does not derive has a protester in y
   opposed : (y : Points) (a : ℕ) → lodged b a ≡ true → (protest_meaning b).derives y y a ≡ false → (c : ℕ) × (protesters b a c ≡ true) × (y c ≡ true)
@@ -35,10 +37,10 @@ module _ (b : ProtestBook) (Y : Points) where
   stable_is_extension s =
       record {
         arguments = λ a h. (exact a h).0;
-        conflict_free = λ a c ha hc. not_true ((framework_of b).attacks a c)
+        conflict_free = λ a c ha hc. false_from_ne_true ((framework_of b).attacks a c)
             (λ t. false_is_not_true (sym ((exact c hc).1 a (attacks_use b a c t).2) ∙ ha));
         attacks_the_rest = λ c l out.
-            let w = avoids_not (protesters b c) Y (not_true (avoids Y (protesters b c)) (λ t. false_is_not_true (sym out ∙ s.closed c (and_of _ _ l t)))) in
+            let w = avoids_not (protesters b c) Y (false_from_ne_true (avoids Y (protesters b c)) (λ t. false_is_not_true (sym out ∙ s.closed c (and_from _ _ l t)))) in
             (w.0, w.2, attacks_of b w.0 c (exact w.0 w.2).0 l w.1);
       }
     where
@@ -60,7 +62,7 @@ module _ (b : ProtestBook) (Y : Points) where
           false_is_not_true (sym (s.1 w.0 (attacks_use b w.0 a w.2).2) ∙ w.1)
 
       unopposed : (a : ℕ) → Y a ≡ true → Disjoint (protesters b a) Y
-      unopposed a h c p = not_true (Y c)
+      unopposed a h c p = false_from_ne_true (Y c)
           (λ hc. false_is_not_true (sym (e.conflict_free c a hc h) ∙ attacks_of b c a (e.arguments c hc) (e.arguments a h) p))
 
   pub stable_is_stable_extension : Stable (protest_meaning b) Y ↔ StableExtension (framework_of b) Y
@@ -73,7 +75,7 @@ module _ (b : ProtestBook) where
 
   -- a lodged point outside the closure has a protester in y
   struck : (y X : Points) → IsClosure (protest_meaning b) y X → (a : ℕ) → lodged b a ≡ true → X a ≡ false → (c : ℕ) × (protesters b a c ≡ true) × (y c ≡ true)
-  struck y X c a l out = opposed b y a l (not_true ((protest_meaning b).derives y y a) (λ h. false_is_not_true (sym out ∙ c.closed a h)))
+  struck y X c a l out = opposed b y a l (false_from_ne_true ((protest_meaning b).derives y y a) (λ h. false_is_not_true (sym out ∙ c.closed a h)))
 
   -- each of a pair of closures defends what it has
   defends : (S P : Points) → IsClosure (protest_meaning b) P S → IsClosure (protest_meaning b) S P → DefendsItself (framework_of b) S
@@ -89,7 +91,7 @@ module _ (b : ProtestBook) where
       )
 
       has_it : Defends (framework_of b) S c → S c ≡ true
-      has_it (l, answer) = s.closed c (stands_of b S P c l (λ a q. not_true (P a) (λ h.
+      has_it (l, answer) = s.closed c (stands_of b S P c l (λ a q. false_from_ne_true (P a) (λ h.
           let stands = standing S P p a h in
           let d = answer a (attacks_of b a c stands.0 l q) in
           false_is_not_true (sym (stands.1 d.0 (attacks_use b d.0 a d.2).2) ∙ d.1))))
@@ -122,14 +124,31 @@ module _ (b : ProtestBook) where
       least : (Z : Points) → Part ((protest_meaning b).derives Z Q) Z → Part D Z
       least Z z a h =
           let s = (fixed a).0 h in
-          z a (stands_of b Z Q a s.0 (λ c q. not_true (Q c) (λ t.
+          z a (stands_of b Z Q a s.0 (λ c q. false_from_ne_true (Q c) (λ t.
           let w = stands_use b D D c t in
           let d = s.1 c (attacks_of b c a w.0 s.0 q) in
           false_is_not_true (sym (w.1 d.0 (attacks_use b d.0 c d.2).2) ∙ d.1))))
 
-  pub sure_is_grounded : (S P : Points) → WellFounded (protest_meaning b) S P → GroundedExtension (framework_of b) S
+  -- what is sure is the grounded extension
+  sure_is_grounded : (S P : Points) → WellFounded (protest_meaning b) S P → GroundedExtension (framework_of b) S
   sure_is_grounded S P f =
       record {
         fixpoint = defends S P f.alternates.sure f.alternates.possible;
         least = λ D fixed. (f.extreme D ((protest_meaning b).derives D D) (alternating D fixed)).0;
       }
+
+  -- and the grounded extension, with its closure, is the well-founded model
+  grounded_is_sure : (S : Points) → GroundedExtension (framework_of b) S → WellFounded (protest_meaning b) S ((protest_meaning b).derives S S)
+  grounded_is_sure S g =
+      record {
+        alternates = pair;
+        extreme = λ S' P' other.
+            let less : Part S S' = g.least S' (defends S' P' other.sure other.possible) in
+            (less, shrinks (protest_meaning b) (protests_lawful b) S S' _ P' less pair.possible other.possible);
+      }
+    where
+      pair : Alternates (protest_meaning b) (protest_meaning b) S ((protest_meaning b).derives S S)
+      pair = alternating S g.fixpoint
+
+  pub grounded_exactly_if_sure : (S : Points) → GroundedExtension (framework_of b) S ↔ ((P : Points) × WellFounded (protest_meaning b) S P)
+  grounded_exactly_if_sure S = (λ g. ((protest_meaning b).derives S S, grounded_is_sure S g), λ (P, f). sure_is_grounded S P f)

@@ -1,4 +1,8 @@
--- Lemmas on the rows of protesters, and on the published definitions.
-pub mod PartialEvaluation
+-- Lemmas on the tests of conditions, on the rows of protesters, and on the published definitions.
+pub mod Conditions
 pub mod Rows
+pub mod Programs
+pub mod ProgramsOfBooks
+pub mod PartialEvaluation
+pub mod EvaluatedEntries
 pub mod Framework

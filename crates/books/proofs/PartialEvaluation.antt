@@ -1,18 +1,17 @@
 -- A chapter of a book whose meaning a program gives is given by the partial evaluation of the program.
 use Rattle.std.proofs.Common.{◌≡◌, ℕ, ◌<◌, ◌≤◌, Bool, true, false, ◌&&◌, eqb, ◌⊎◌, sym, refl, ap, ◌∙◌, subst, inl, inr, arith, ltb-true, le-ltb, lt-ltb, eq-eqb, ne_eqb, eqb-true}
-use Rattle.std.proofs.lemmas.Bool.{cases_lt}
+use Rattle.std.proofs.lemmas.Bool.{cases_lt, and_parts, and_from}
 use Rattle.rulings.specs.Points.{Points, Part, Disjoint, union}
 use Rattle.semantics.specs.Meaning.{Meaning}
 use Rattle.semantics.specs.Chapters.{Fit, in_chapter, below_chapter, chapter}
-use Rattle.semantics.proofs.Tests.{and_both, and_of}
 use Rattle.books.specs.PartialEvaluation.{EvaluatesTo}
 use Rattle.books.specs.Program.{Rule, Program, Derives, evaluated}
 use Rattle.books.specs.Tests.{or_nothing}
-use Rattle.books.specs.ProgramLemmas.{GivenBy, ReadsBodies, stable_is_stable_model}
+use Rattle.books.proofs.Programs.{GivenBy, ReadsBodies, stable_is_stable_model}
 
 module _ (ch : ℕ → ℕ) (k : ℕ) where
   -- the points of z in the lower chapters, and those of x in chapter k
-  abbrev joined : Points → Points → Points
+  abbrev pub joined : Points → Points → Points
   joined z x = union (below_chapter ch k z) (in_chapter ch k x)
 
   joined_lower : (z x : Points) (b : ℕ) → ch b < k → joined z x b ≡ z b
@@ -24,21 +23,21 @@ module _ (ch : ℕ → ℕ) (k : ℕ) where
   -- A body p, looked up in such a set, is its lower part looked up in z and its part in chapter k looked up in x;
   -- every point of it is to be there (t is true), or none (t is false).
   module _ (p z x : Points) (t : Bool) where
-    split_lower : ((b : ℕ) → p b ≡ true → joined z x b ≡ t) → (b : ℕ) → below_chapter ch k p b ≡ true → z b ≡ t
-    split_lower h b q = let s = and_both _ _ q in sym (joined_lower z x b (ltb-true (ch b) k s.0)) ∙ h b s.1
+    pub split_lower : ((b : ℕ) → p b ≡ true → joined z x b ≡ t) → (b : ℕ) → below_chapter ch k p b ≡ true → z b ≡ t
+    split_lower h b q = let s = and_parts _ _ q in sym (joined_lower z x b (ltb-true (ch b) k s.0)) ∙ h b s.1
 
-    split_here : ((b : ℕ) → p b ≡ true → joined z x b ≡ t) → (b : ℕ) → in_chapter ch k p b ≡ true → x b ≡ t
-    split_here h b q = let s = and_both _ _ q in sym (joined_here z x b (eqb-true (ch b) k s.0)) ∙ h b s.1
+    pub split_here : ((b : ℕ) → p b ≡ true → joined z x b ≡ t) → (b : ℕ) → in_chapter ch k p b ≡ true → x b ≡ t
+    split_here h b q = let s = and_parts _ _ q in sym (joined_here z x b (eqb-true (ch b) k s.0)) ∙ h b s.1
 
-    join : ((b : ℕ) → p b ≡ true → ch b ≤ k) → ((b : ℕ) → below_chapter ch k p b ≡ true → z b ≡ t) →
+    pub join : ((b : ℕ) → p b ≡ true → ch b ≤ k) → ((b : ℕ) → below_chapter ch k p b ≡ true → z b ≡ t) →
         ((b : ℕ) → in_chapter ch k p b ≡ true → x b ≡ t) → (b : ℕ) → p b ≡ true → joined z x b ≡ t
     join fits lower here b q = go (cases_lt (ch b) k)
       where
         go : (ch b < k) ⊎ (k ≤ ch b) → joined z x b ≡ t
-        go (inl l) = joined_lower z x b l ∙ lower b (and_of _ _ (lt-ltb (ch b) k l) q)
+        go (inl l) = joined_lower z x b l ∙ lower b (and_from _ _ (lt-ltb (ch b) k l) q)
         go (inr l) =
             let e : ch b ≡ k = omega (arith, fits b q) in
-            joined_here z x b e ∙ here b (and_of _ _ (eq-eqb (ch b) k e) q)
+            joined_here z x b e ∙ here b (and_from _ _ (eq-eqb (ch b) k e) q)
 
 -- under chapters that fit, the chapter under the lower points of U and V is given by the evaluated program
 module _ (m : Meaning) (P : Program) (given : GivenBy m P) (reads : ReadsBodies m P) (ch : ℕ → ℕ) (fit : Fit m ch) (k : ℕ) (U V : Points) where
@@ -47,7 +46,7 @@ module _ (m : Meaning) (P : Program) (given : GivenBy m P) (reads : ReadsBodies 
     where
       by_evaluated : eqb (ch a) k && m.derives (joined ch k U x) (joined ch k V y) a ≡ true → Derives (evaluated ch k U V P) x y a
       by_evaluated h =
-          let q = and_both _ _ h in
+          let q = and_parts _ _ h in
           let w = (given (joined ch k U x) (joined ch k V y) a).0 q.1 in
           let s = w.0 in
           let at : s.head ≡ a = w.2 in (
@@ -69,7 +68,7 @@ module _ (m : Meaning) (P : Program) (given : GivenBy m P) (reads : ReadsBodies 
       by_chapter (r, (s, h, inside, low_p, low_n, q), at, p, n) =
           let head : s.head ≡ a = subst (λ (r : Rule). r.head ≡ a) q at in
           let lower : (b : ℕ) → (s.positive b ≡ true) ⊎ (s.negative b ≡ true) → ch b ≤ k = λ b named. omega (arith, fit s.head b (reads s h b named)) in
-          and_of _ _ (eq-eqb (ch a) k (sym (ap ch head) ∙ inside)) ((given (joined ch k U x) (joined ch k V y) a).1 (
+          and_from _ _ (eq-eqb (ch a) k (sym (ap ch head) ∙ inside)) ((given (joined ch k U x) (joined ch k V y) a).1 (
             s,
             h,
             head,

@@ -8,7 +8,7 @@ use Rattle.rulings.specs.Points.{Disjoint}
 use Rattle.rulings.specs.Rulings.{has}
 use Rattle.rulings.specs.declared.ruling.Ruling.{Ruling}
 use Rattle.books.specs.Entries.{avoids}
-use Rattle.books.specs.EntriesLemmas.{avoids_is}
+use Rattle.books.proofs.Conditions.{avoids_is}
 
 -- a table of copies of one row
 pub none_row : (n a : ℕ) (none : Option Ruling) → slice_index_or (replicate n none) a none ≡ none

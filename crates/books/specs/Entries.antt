@@ -4,7 +4,7 @@ use Rattle.std.specs.List.{list_any}
 use Rattle.rulings.specs.Points.{Points}
 use Rattle.rulings.specs.Rulings.{has}
 use Rattle.semantics.specs.Meaning.{Meaning}
-use Rattle.books.specs.declared.table.Entry.{Entry}
+use Rattle.books.specs.declared.entry.Entry.{Entry}
 use Rattle.books.specs.declared.table.Table.{Table}
 
 -- the entries that stand in a table, oldest first

@@ -1,25 +1,24 @@
--- What an entry asks for, as facts, and what a list of entries means.
-use Rattle.std.specs.Prelude.{◌≡◌, ℕ, zero, suc, ◌<◌, ◌≤◌, Bool, true, false, not, ◌&&◌, ◌||◌, ◌⊎◌, ◌↔◌, List, refl}
+-- What an entry asks for, as facts, and that a list of entries means a lawful book.
+use Rattle.std.specs.Prelude.{◌≡◌, ℕ, zero, suc, ◌<◌, ◌≤◌, Bool, true, not, ◌&&◌, ◌||◌, ◌⊎◌, List, refl}
 use Rattle.std.proofs.Common.{sym, ap, subst, ◌∙◌, inl, inr, arith, eq-or-lt_of_le, le_of_suc-le-suc, not-suc-le-zero, eqb-true, eq-eqb}
-use Rattle.std.proofs.Math.Decide.{dec_lt}
 use Rattle.rulings.specs.Points.{Points, Part, Disjoint}
 use Rattle.rulings.specs.Rulings.{has}
-use Rattle.rulings.specs.declared.ruling.Ruling.{Ruling}
-use Rattle.rulings.proofs.Bytes.{has_past}
+use Rattle.rulings.proofs.Bytes.{has_below}
 use Rattle.semantics.specs.Meaning.{Lawful, AgreeOnRead}
-use Rattle.semantics.proofs.Tests.{false_is_not_true, and_both, and_of, or_left, or_right, both_ways, implies_of, implies_use}
-use Rattle.std.proofs.lemmas.Bool.{not-false}
-use Rattle.books.specs.declared.table.Entry.{Entry}
+use Rattle.semantics.proofs.Tests.{both_ways, implies_of, implies_use}
+use Rattle.books.specs.declared.entry.Entry.{Entry}
 use Rattle.std.specs.List.{All, list_any}
 use Rattle.std.proofs.lemmas.List.Folds.{Any-from_list_any, list_any-from_Any}
+use Rattle.std.proofs.lemmas.Bool.{and_parts, and_from, or_left, or_right}
 use Rattle.books.specs.Entries.{every_below, for_point, covers, avoids, fires, names, looks_at, by_entries}
 use Rattle.books.specs.Tests.{nand_of, nand_use, contrapositive}
 use Rattle.books.specs.Any.{any_implies}
 
+-- what holds of every number below n, number by number
 pub every_below_use : (n : ℕ) (test : ℕ → Bool) → every_below n test ≡ true → (b : ℕ) → b < n → test b ≡ true
 unfolding every_below
 every_below_use zero test h b l = absurd (not-suc-le-zero l)
-every_below_use (suc n) test h b l = go (and_both _ _ h) (every_below_use n test) (eq-or-lt_of_le (le_of_suc-le-suc l))
+every_below_use (suc n) test h b l = go (and_parts _ _ h) (every_below_use n test) (eq-or-lt_of_le (le_of_suc-le-suc l))
   where
     go : (test n ≡ true) × (every_below n test ≡ true) → (every_below n test ≡ true → (b : ℕ) → b < n → test b ≡ true) → (b ≡ n) ⊎ (b < n) → test b ≡ true
     go p ih (inl e) = subst (λ (k : ℕ). test k ≡ true) (sym e) p.0
@@ -28,32 +27,7 @@ every_below_use (suc n) test h b l = go (and_both _ _ h) (every_below_use n test
 every_below_of : (n : ℕ) (test : ℕ → Bool) → ((b : ℕ) → b < n → test b ≡ true) → every_below n test ≡ true
 unfolding every_below
 every_below_of zero test f = refl
-every_below_of (suc n) test f = and_of _ _ (f n (omega arith)) (every_below_of n test (λ b l. f b (omega arith)))
-
--- where the test fails of some number, one is found
-every_below_not : (n : ℕ) (test : ℕ → Bool) → every_below n test ≡ false → (b : ℕ) × (test b ≡ false)
-unfolding every_below
-every_below_not zero test h = false_is_not_true (sym h)
-every_below_not (suc n) test h = go (test n) refl h (every_below_not n test)
-  where
-    go : (t : Bool) → test n ≡ t → t && every_below n test ≡ false → (every_below n test ≡ false → (b : ℕ) × (test b ≡ false)) → (b : ℕ) × (test b ≡ false)
-    go true e q ih = ih q
-    go false e q ih = (n, e)
-
--- a point of a ruling is below 128
-pub has_below : (r : Ruling) (b : ℕ) → has r b ≡ true → b < 128
-has_below r b h = go (dec_lt b 128)
-  where
-    go : Dec (b < 128) → b < 128
-    go (yes l) = l
-    go (no n) = false_is_not_true (sym (has_past r b (omega (arith, n))) ∙ h)
-
--- a point that two sets share, where the one does not avoid the other
-pub avoids_not : (p y : Points) → avoids y p ≡ false → (b : ℕ) × (p b ≡ true) × (y b ≡ true)
-avoids_not p y h =
-    let w = every_below_not 128 (λ c. not (p c && y c)) h in
-    let q = and_both _ _ (not-false (p w.0 && y w.0) w.1) in
-    (w.0, q.0, q.1)
+every_below_of (suc n) test f = and_from _ _ (f n (omega arith)) (every_below_of n test (λ b l. f b (omega arith)))
 
 -- the two tests as facts, of a set that has only points below 128
 module _ (p : Points) (small : (b : ℕ) → p b ≡ true → b < 128) where
@@ -69,27 +43,20 @@ module _ (p : Points) (small : (b : ℕ) → p b ≡ true → b < 128) where
   pub avoids_of : (y : Points) → Disjoint p y → avoids y p ≡ true
   avoids_of y h = every_below_of 128 (λ c. not (p c && y c)) (λ b l. nand_of _ _ (h b))
 
--- a test that answers containment or disjointness is the meaning's
-pub covers_is : (p : Ruling) (x : Points) (r : Bool) → (r ≡ true) ↔ Part (has p) x → r ≡ covers x (has p)
-covers_is p x r h = both_ways r (covers x (has p)) (λ t. covers_of (has p) (has_below p) x (h.0 t)) (λ t. h.1 (covers_use (has p) (has_below p) x t))
-
-pub avoids_is : (q : Ruling) (y : Points) (r : Bool) → (r ≡ true) ↔ Disjoint (has q) y → r ≡ avoids y (has q)
-avoids_is q y r h = both_ways r (avoids y (has q)) (λ t. avoids_of (has q) (has_below q) y (h.0 t)) (λ t. h.1 (avoids_use (has q) (has_below q) y t))
-
 module _ (e : Entry) where
   -- an entry that fires, in words
   pub fires_use : (a : ℕ) (x y : Points) → fires a x y e ≡ true →
       (e.point ≡ a) × Part (has e.supporters) x × Disjoint (has e.strikers) y
   fires_use a x y h =
-      let p = and_both (for_point a e) (covers x (has e.supporters) && avoids y (has e.strikers)) h in
-      let q = and_both (covers x (has e.supporters)) (avoids y (has e.strikers)) p.1 in (
+      let p = and_parts (for_point a e) (covers x (has e.supporters) && avoids y (has e.strikers)) h in
+      let q = and_parts (covers x (has e.supporters)) (avoids y (has e.strikers)) p.1 in (
         eqb-true e.point a p.0,
         covers_use (has e.supporters) (has_below e.supporters) x q.0,
         avoids_use (has e.strikers) (has_below e.strikers) y q.1,
       )
 
   pub fires_of : (a : ℕ) (x y : Points) → e.point ≡ a → Part (has e.supporters) x → Disjoint (has e.strikers) y → fires a x y e ≡ true
-  fires_of a x y s p d = and_of _ _ (eq-eqb e.point a s) (and_of _ _
+  fires_of a x y s p d = and_from _ _ (eq-eqb e.point a s) (and_from _ _
       (covers_of (has e.supporters) (has_below e.supporters) x p)
       (avoids_of (has e.strikers) (has_below e.strikers) y d))
 
@@ -100,8 +67,8 @@ module _ (e : Entry) where
       let f = fires_use a x y h in
       let here : for_point a e ≡ true = eq-eqb e.point a f.0 in
       fires_of a x' y' f.0
-      (λ b p. sym (agree b (and_of _ _ here (or_left _ _ p))).0 ∙ f.1 b p)
-      (λ b p. sym (agree b (and_of _ _ here (or_right (has e.supporters b) (has e.strikers b) p))).1 ∙ f.2 b p)
+      (λ b p. sym (agree b (and_from _ _ here (or_left _ _ p))).0 ∙ f.1 b p)
+      (λ b p. sym (agree b (and_from _ _ here (or_right (has e.supporters b) (has e.strikers b) p))).1 ∙ f.2 b p)
 
 -- entries for points below n that name only points below n mean a lawful book
 pub entries_lawful : (n : ℕ) (es : List Entry) → 1 ≤ n → n ≤ 128 →
@@ -118,8 +85,8 @@ entries_lawful n es some few heads bodies =
           both_ways (list_any (fires a x y) es) (list_any (fires a x' y') es)
           (through a x y x' y' agree)
           (through a x' y' x y (λ b q. let s = agree b q in (sym s.0, sym s.1)));
-      derives_inside = λ x y a h. entered a (any_implies (fires a x y) (for_point a) (λ e f. (and_both (for_point a e) _ f).0) es h);
-      reads_inside = λ a b h. (entered a (any_implies (looks_at a b) (for_point a) (λ e f. (and_both (for_point a e) _ f).0) es h), read a b h);
+      derives_inside = λ x y a h. entered a (any_implies (fires a x y) (for_point a) (λ e f. (and_parts (for_point a e) _ f).0) es h);
+      reads_inside = λ a b h. (entered a (any_implies (looks_at a b) (for_point a) (λ e f. (and_parts (for_point a e) _ f).0) es h), read a b h);
     }
   where
     entered : (a : ℕ) → list_any (for_point a) es ≡ true → a < n
@@ -130,7 +97,7 @@ entries_lawful n es some few heads bodies =
     read : (a b : ℕ) → list_any (looks_at a b) es ≡ true → b < n
     read a b h =
         let (k, e, low, at, f) = Any-from_list_any (looks_at a b) es h in
-        bodies k e low b (subst (λ (e : Entry). names e b ≡ true) (sym at) (and_both (for_point a e) _ f).1)
+        bodies k e low b (subst (λ (e : Entry). names e b ≡ true) (sym at) (and_parts (for_point a e) _ f).1)
 
     through : (a : ℕ) (x y x' y' : Points) → AgreeOnRead (by_entries n es) a x y x' y' → list_any (fires a x y) es ≡ true → list_any (fires a x' y') es ≡ true
     through a x y x' y' agree h =

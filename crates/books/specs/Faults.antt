@@ -52,6 +52,7 @@ module _ (m : Meaning) (n : ℕ) (m' : Meaning) where
         unaltered = λ g e. same;
       }
 
+-- an entering that was accepted, and one that was denied
 module _ (m : Meaning) (a : ℕ) (p q : Ruling) (m' : Meaning) where
   pub entering_accepted : a < m.size → Lowest (strays m.size p q) None → m'.size ≡ m.size → SameBut a m m' → Entering m a p q (Ok tt) m'
   entering_accepted inside clear size same =
@@ -79,32 +80,33 @@ module _ (m : Meaning) (a : ℕ) (p q : Ruling) (m' : Meaning) where
 
       point_of : EnteringDenied m.size a p q own f → f ≡ fault_of Book (NoSuchPoint a) → m.size ≤ a
       point_of (inl h) e = h.1
-      point_of (inr (inl h)) e = let is : StrayMark h.0 ≡ NoSuchPoint a = refusal_is h.1 e in cc
+      point_of (inr (inl ((k, is, low), inside))) e = let same : StrayMark k ≡ NoSuchPoint a = refusal_is is e in cc
       point_of (inr (inr h)) e = not_by_sort (NoSuchPoint a) (sort h.0) e (lit≤ tt)
 
       of_point : EnteringDenied m.size a p q own f → m.size ≤ a → f ≡ fault_of Book (NoSuchPoint a)
       of_point (inl h) l = h.0
-      of_point (inr (inl h)) l = absurd (omega (arith, h.2))
+      of_point (inr (inl (stray, inside))) l = absurd (omega arith)
       of_point (inr (inr h)) l = absurd (omega (arith, h.1))
 
       stray_of : EnteringDenied m.size a p q own f → (s : ℕ) → f ≡ fault_of Book (StrayMark s) → (a < m.size) × Lowest (strays m.size p q) (Some s)
       stray_of (inl h) s e = let is : NoSuchPoint a ≡ StrayMark s = refusal_is h.0 e in cc
-      stray_of (inr (inl h)) s e =
-          let is : StrayMark h.0 ≡ StrayMark s = refusal_is h.1 e in
-          let at : h.0 ≡ s = cc in
-          (h.2, subst (λ (k : ℕ). Lowest (strays m.size p q) (Some k)) at h.3)
+      stray_of (inr (inl ((k, is, low), inside))) s e =
+          let same : StrayMark k ≡ StrayMark s = refusal_is is e in
+          let at : k ≡ s = cc in
+          (inside, subst (λ (k : ℕ). Lowest (strays m.size p q) (Some k)) at low)
       stray_of (inr (inr h)) s e = not_by_sort (StrayMark s) (sort h.0) e (lit≤ tt)
 
       of_stray : EnteringDenied m.size a p q own f → (s : ℕ) → a < m.size → Lowest (strays m.size p q) (Some s) → f ≡ fault_of Book (StrayMark s)
       of_stray (inl h) s l low = absurd (omega (arith, h.1))
-      of_stray (inr (inl h)) s l low = h.1 ∙ ap (λ (k : ℕ). fault_of Book (StrayMark k)) (one_lowest (strays m.size p q) h.0 s h.3 low)
+      of_stray (inr (inl ((k, is, lowest), inside))) s l low = is ∙ ap (λ (k : ℕ). fault_of Book (StrayMark k)) (one_lowest (strays m.size p q) k s lowest low)
       of_stray (inr (inr h)) s l low = false_is_not_true (sym (h.2 s) ∙ low.0)
 
       cases : EnteringDenied m.size a p q own f → (f ≡ fault_of Book (NoSuchPoint a)) ⊎ (((s : ℕ) × (f ≡ fault_of Book (StrayMark s))) ⊎ BySort f)
       cases (inl h) = inl h.0
-      cases (inr (inl h)) = inr (inl (h.0, h.1))
+      cases (inr (inl ((k, is, low), inside))) = inr (inl (k, is))
       cases (inr (inr h)) = inr (inr (sort h.0))
 
+-- a withdrawing that was accepted, and one that was denied
 module _ (m : Meaning) (a : ℕ) (m' : Meaning) where
   pub withdrawing_accepted : a < m.size → m'.size ≡ m.size → SameBut a m m' → Withdrawing m a (Ok tt) m'
   withdrawing_accepted inside size same =

@@ -6,7 +6,7 @@ use Rattle.std.specs.List.{Any}
 use Rattle.rulings.specs.Points.{Points, Part, Disjoint}
 use Rattle.rulings.specs.Rulings.{has}
 use Rattle.semantics.specs.Chapters.{in_chapter, below_chapter}
-use Rattle.books.specs.declared.table.Entry.{Entry}
+use Rattle.books.specs.declared.entry.Entry.{Entry}
 
 -- a normal rule: the head holds if all of the positive body does and none of the negative body
 pub record Rule : Type 0 where
@@ -53,10 +53,11 @@ pub record LeastPrecisePair (P : Program) (S Q : Points) : Type 0 where
   pub fixpoint : StablePair P S Q
   pub least_precise : (S' Q' : Points) → StablePair P S' Q' → Part S S' × Part Q' Q
 
--- the rule of an entry, and the program of a list of entries
+-- the rule of an entry
 abbrev pub rule_of : Entry → Rule
 rule_of e = record { head = e.point; positive = has e.supporters; negative = has e.strikers }
 
+-- the program of a list of entries: the rules of its entries
 abbrev pub program_of : List Entry → Program
 program_of es r = Any (λ e. r ≡ rule_of e) es
 

@@ -1,6 +1,6 @@
 -- What every book promises of its three changes, in terms of its meaning alone.
-use Rattle.std.specs.Prelude.{◌≡◌, ℕ, ◌<◌, ◌≤◌, ◌&&◌, ◌||◌, ◌⊎◌, ◌↔◌, Some, None, Ok, Err, Result, ◌≢◌, nat_le}
-use Rattle.rulings.specs.Points.{Points, Lowest}
+use Rattle.std.specs.Prelude.{◌≡◌, ℕ, ◌<◌, ◌≤◌, ◌⊎◌, ◌↔◌, Some, None, Ok, Err, Result, ◌≢◌}
+use Rattle.rulings.specs.Points.{Points, union, Lowest}
 use Rattle.rulings.specs.Rulings.{has}
 use Rattle.rulings.specs.declared.ruling.Ruling.{Ruling}
 use Rattle.semantics.specs.Meaning.{Meaning}
@@ -9,12 +9,13 @@ use Rattle.answers.specs.declared.fault.Refusal.TheVariants.{BadSize, NoSuchPoin
 use Rattle.answers.specs.declared.fault.Layer.TheVariants.{Book}
 use Rattle.answers.specs.declared.fault.Fault.{Fault}
 use Rattle.answers.specs.Faults.{number, fault_of}
+use Rattle.answers.specs.Checks.{stray, PointDenied, MarkDenied}
 
 -- what a change answers: done, or a fault
 abbrev pub Outcome : Type 0
 Outcome = Result Unit Fault
 
--- the change was refused with this, by the book
+-- the book denied the change with this refusal
 abbrev pub Refused : Outcome → Refusal → Type 0
 Refused r why = r ≡ Err (fault_of Book why)
 
@@ -26,25 +27,21 @@ BySort f = (why : Refusal) × (f ≡ fault_of Book why) × (4 ≤ number why) ×
 abbrev pub BadSizeFor : ℕ → Type 0
 BadSizeFor n = (n ≡ 0) ⊎ (128 < n)
 
--- the points of a ruling that a book of size n does not have
-abbrev pub stray : ℕ → Points → Points
-stray n x a = nat_le n a && x a
-
 -- the points of two rulings that a book of size n does not have
 abbrev pub strays : ℕ → Ruling → Ruling → Points
-strays n p q = stray n (λ a. has p a || has q a)
+strays n p q = stray n (union (has p) (has q))
 
 -- Why an entering is denied, the smaller number first: there is no such point; or a point is stray, and the lowest is
 -- named; or `own`, which the sort of book decides.
 abbrev pub EnteringDenied : ℕ → ℕ → Ruling → Ruling → (Fault → Type 0) → Fault → Type 0
 EnteringDenied n a p q own f =
-    ((f ≡ fault_of Book (NoSuchPoint a)) × (n ≤ a))
-    ⊎ (((s : ℕ) × (f ≡ fault_of Book (StrayMark s)) × (a < n) × Lowest (strays n p q) (Some s))
+    PointDenied Book n a f
+    ⊎ ((MarkDenied Book n (union (has p) (has q)) f × (a < n))
     ⊎ (own f × (a < n) × Lowest (strays n p q) None))
 
 -- why a withdrawing is denied: there is no such point, or `own`, which the sort of book decides
 abbrev pub WithdrawingDenied : ℕ → ℕ → (Fault → Type 0) → Fault → Type 0
-WithdrawingDenied n a own f = ((f ≡ fault_of Book (NoSuchPoint a)) × (n ≤ a)) ⊎ (own f × (a < n))
+WithdrawingDenied n a own f = PointDenied Book n a f ⊎ (own f × (a < n))
 
 -- the answers for every point but a are as they were
 pub record SameBut (a : ℕ) (m m' : Meaning) : Type 0 where

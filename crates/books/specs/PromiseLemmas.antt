@@ -5,7 +5,7 @@ use Rattle.std.proofs.lemmas.Bool.{not-false}
 use Rattle.rulings.specs.Points.{Points}
 use Rattle.rulings.specs.declared.ruling.Ruling.{Ruling}
 use Rattle.answers.specs.declared.fault.Refusal.TheVariants.{BookFull, NothingEntered}
-use Rattle.books.specs.declared.table.Entry.{Entry}
+use Rattle.books.specs.declared.entry.Entry.{Entry}
 use Rattle.std.specs.List.{list_any}
 use Rattle.books.specs.declared.rule_book.RuleBook.{RuleBook}
 use Rattle.books.specs.Promise.{Outcome, Opening, Entering, Withdrawing}
@@ -25,6 +25,7 @@ module _ (a b : ℕ) (other : b ≡ a → ⊥) (e : Entry) where
   no_look : (c : ℕ) → for_point a e ≡ true → looks_at b c e ≡ false
   no_look c h = rw (for_other h) refl
 
+-- what each change does to the entries is what every book promises of it
 pub opens : (b : RuleBook) (n : ℕ) (r : Outcome) (b' : RuleBook) → Opened b n r b' → Opening (meaning_of b) n r (meaning_of b')
 opens b n (Ok tt) b' (good, size, _) = opening_accepted (meaning_of b) n (meaning_of b') good size
 opens b n (Err f) b' (bad, is, same) = opening_denied (meaning_of b) n (meaning_of b') f bad is (ap meaning_of same)

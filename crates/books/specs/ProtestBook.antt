@@ -36,20 +36,21 @@ protest_meaning b =
 abbrev pub protest_program : ProtestBook → Program
 protest_program b r = (a : ℕ) × (lodged b a ≡ true) × (r ≡ record { head = a; positive = λ _. false; negative = protesters b a })
 
--- opening: the size is set, and nothing is lodged or protested
+-- opening: the size is set, and nothing is lodged or protested; denied for a bad size, the book is as found
 abbrev pub ProtestOpened : ProtestBook → ℕ → Outcome → ProtestBook → Type 0
 ProtestOpened b n (Ok _) b' =
     (BadSizeFor n → ⊥) × (b'.size ≡ n) × ((a : ℕ) → lodged b' a ≡ false) × ((a c : ℕ) → protesters b' a c ≡ false)
 ProtestOpened b n (Err f) b' = BadSizeFor n × (f ≡ fault_of Book BadSize) × (b' ≡ b)
 
--- why an entering is denied: for what every book denies, or for supporters, of which the lowest is named
+-- denied for supporters, of which the lowest is named
 abbrev pub Supported : Ruling → Fault → Type 0
 Supported p f = (c : ℕ) × (f ≡ fault_of Book (NoSupportersHere c)) × Lowest (has p) (Some c)
 
+-- why an entering is denied: for what every book denies, or for supporters
 abbrev pub ProtestDenied : ProtestBook → ℕ → Ruling → Ruling → Fault → Type 0
 ProtestDenied b a p q = EnteringDenied b.size a p q (Supported p)
 
--- entering: the point is lodged, and q is added to the protesters that it has
+-- entering: the point is lodged, and q is added to the protesters that it has; denied, the book is as found
 abbrev pub ProtestEntered : ProtestBook → ℕ → Ruling → Ruling → Outcome → ProtestBook → Type 0
 ProtestEntered b a p q (Ok _) b' =
     (a < b.size) × Lowest (strays b.size p q) None × Lowest (has p) None × (b'.size ≡ b.size)
@@ -57,14 +58,15 @@ ProtestEntered b a p q (Ok _) b' =
     × ((c d : ℕ) → protesters b' c d ≡ protesters b c d || (c == a && has q d))
 ProtestEntered b a p q (Err f) b' = ProtestDenied b a p q f × (b' ≡ b)
 
--- why a withdrawing is denied: for what every book denies, or because the point is not lodged
+-- denied since nothing is entered: the point is not lodged
 abbrev pub NotLodged : ProtestBook → ℕ → Fault → Type 0
 NotLodged b a f = (f ≡ fault_of Book (NothingEntered a)) × (lodged b a ≡ false)
 
+-- why a withdrawing is denied: for what every book denies, or because the point is not lodged
 abbrev pub ProtestWithdrawDenied : ProtestBook → ℕ → Fault → Type 0
 ProtestWithdrawDenied b a = WithdrawingDenied b.size a (NotLodged b a)
 
--- withdrawing: the lodging of the point and its protesters are taken back
+-- withdrawing: the lodging of the point and its protesters are taken back; denied, the book is as found
 abbrev pub ProtestWithdrawn : ProtestBook → ℕ → Outcome → ProtestBook → Type 0
 ProtestWithdrawn b a (Ok _) b' =
     (a < b.size) × (lodged b a ≡ true) × (b'.size ≡ b.size)

@@ -1,36 +1,37 @@
--- The protest book keeps the laws and the promise of every book, and means its program.
-use Rattle.std.specs.Prelude.{◌≡◌, ℕ, ◌<◌, Bool, true, false, ◌&&◌, ◌⊎◌, Ok, Err, ◌==◌, ◌≢◌, refl}
-use Rattle.std.proofs.Common.{sym, ap, ap₂, subst, ◌∙◌, inl, inr, arith, lit≤, ne_eqb}
+-- The protest book keeps the laws and the promise of every book.
+use Rattle.std.specs.Prelude.{◌≡◌, ℕ, ◌<◌, Bool, true, ◌&&◌, Ok, Err, ◌==◌, ◌≢◌}
+use Rattle.std.proofs.Common.{sym, ap, ap₂, ◌∙◌, arith, lit≤, ne_eqb}
 use Rattle.std.proofs.Math.Path.{fun_ext}
+use Rattle.std.proofs.lemmas.Bool.{and_parts, and_from}
 use Rattle.rulings.specs.Points.{Points, Disjoint}
 use Rattle.rulings.specs.Rulings.{has}
 use Rattle.rulings.specs.declared.ruling.Ruling.{Ruling}
 use Rattle.semantics.specs.Meaning.{Lawful, AgreeOnRead}
-use Rattle.semantics.proofs.Tests.{false_is_not_true, and_both, and_of, both_ways}
+use Rattle.semantics.proofs.Tests.{both_ways}
 use Rattle.answers.specs.declared.fault.Refusal.TheVariants.{NoSupportersHere, NothingEntered}
 use Rattle.books.specs.declared.protest_book.ProtestBook.{ProtestBook}
 use Rattle.books.specs.Promise.{Outcome, SameBut, Opening, Entering, Withdrawing}
 use Rattle.books.specs.Entries.{avoids}
-use Rattle.books.specs.Program.{Rule, Derives}
-use Rattle.books.specs.ProtestBook.{Supported, NotLodged, lodged, protesters, protest_meaning, protest_program, ProtestOpened, ProtestEntered, ProtestWithdrawn}
+use Rattle.books.specs.ProtestBook.{Supported, NotLodged, lodged, protesters, protest_meaning, ProtestOpened, ProtestEntered, ProtestWithdrawn}
 use Rattle.books.specs.Tests.{contrapositive, or_nothing, and_not_nothing}
 use Rattle.books.specs.EntriesLemmas.{avoids_use, avoids_of}
 use Rattle.books.specs.Faults.{entering_accepted, entering_denied, opening_accepted, opening_denied, withdrawing_accepted, withdrawing_denied}
-use Rattle.books.specs.ProgramLemmas.{GivenBy, ReadsBodies}
 
 module _ (b : ProtestBook) where
+  -- protesters are points of the book, so below 128
   protesters_below : (a c : ℕ) → protesters b a c ≡ true → c < 128
   protesters_below a c h = omega (arith, b.attackers a c h, b.most)
 
   -- a point that derives, in words
   pub stands_use : (x y : Points) (a : ℕ) → (protest_meaning b).derives x y a ≡ true → (lodged b a ≡ true) × Disjoint (protesters b a) y
   stands_use x y a h =
-      let p = and_both (lodged b a) _ h in
+      let p = and_parts (lodged b a) _ h in
       (p.0, avoids_use (protesters b a) (protesters_below a) y p.1)
 
   pub stands_of : (x y : Points) (a : ℕ) → lodged b a ≡ true → Disjoint (protesters b a) y → (protest_meaning b).derives x y a ≡ true
-  stands_of x y a l d = and_of _ _ l (avoids_of (protesters b a) (protesters_below a) y d)
+  stands_of x y a l d = and_from _ _ l (avoids_of (protesters b a) (protesters_below a) y d)
 
+  -- the book keeps the laws of every book
   pub protests_lawful : Lawful (protest_meaning b)
   protests_lawful =
       record {
@@ -45,36 +46,14 @@ module _ (b : ProtestBook) where
             (through x y x' y' a agree)
             (through x' y' x y a (λ c q. let s = agree c q in (sym s.0, sym s.1)));
         derives_inside = λ x y a h. b.arguments a (stands_use x y a h).0;
-        reads_inside = λ a c h. let q = and_both (lodged b a) _ h in (b.arguments a q.0, b.attackers a c q.1);
+        reads_inside = λ a c h. let q = and_parts (lodged b a) _ h in (b.arguments a q.0, b.attackers a c q.1);
       }
     where
       through : (x y x' y' : Points) (a : ℕ) → AgreeOnRead (protest_meaning b) a x y x' y' →
           (protest_meaning b).derives x y a ≡ true → (protest_meaning b).derives x' y' a ≡ true
       through x y x' y' a agree h =
           let s = stands_use x y a h in
-          stands_of x' y' a s.0 (λ c q. sym (agree c (and_of _ _ s.0 q)).1 ∙ s.1 c q)
-
-  -- the book means its program, which it reads
-  pub given_by_protests : GivenBy (protest_meaning b) (protest_program b)
-  given_by_protests x y a = (by_its_rule, by_protesters)
-    where
-      by_its_rule : (protest_meaning b).derives x y a ≡ true → Derives (protest_program b) x y a
-      by_its_rule h =
-          let s = stands_use x y a h in
-          (record { head = a; positive = λ _. false; negative = protesters b a }, (a, s.0, refl), refl, λ c e. false_is_not_true e, s.1)
-
-      by_protesters : Derives (protest_program b) x y a → (protest_meaning b).derives x y a ≡ true
-      by_protesters (r, (c, l, q), at, p, d) =
-          subst (λ (k : ℕ). (protest_meaning b).derives x y k ≡ true) (subst (λ (s : Rule). s.head ≡ a) q at)
-          (stands_of x y c l (subst (λ (s : Rule). Disjoint s.negative y) q d))
-
-  pub reads_bodies_of_protests : ReadsBodies (protest_meaning b) (protest_program b)
-  reads_bodies_of_protests r (a, l, q) c =
-      subst (λ (s : Rule). (s.positive c ≡ true) ⊎ (s.negative c ≡ true) → (protest_meaning b).reads s.head c ≡ true) (sym q) either
-    where
-      either : (false ≡ true) ⊎ (protesters b a c ≡ true) → lodged b a && protesters b a c ≡ true
-      either (inl e) = false_is_not_true e
-      either (inr e) = and_of _ _ l e
+          stands_of x' y' a s.0 (λ c q. sym (agree c (and_from _ _ s.0 q)).1 ∙ s.1 c q)
 
 -- where the other points are lodged and protested as they were, their answers are as they were
 same_but : (b : ProtestBook) (a : ℕ) (b' : ProtestBook) → ((c : ℕ) → (c ≢ a) → lodged b' c ≡ lodged b c) →
@@ -85,6 +64,7 @@ same_but b a b' l p =
       reads = λ c other d. ap₂ ◌&&◌ (l c other) (p c other d);
     }
 
+-- what each change does to lodged points and protesters is what every book promises of it
 pub protest_opens : (b : ProtestBook) (n : ℕ) (r : Outcome) (b' : ProtestBook) → ProtestOpened b n r b' → Opening (protest_meaning b) n r (protest_meaning b')
 protest_opens b n (Ok tt) b' (good, size, _, _) = opening_accepted (protest_meaning b) n (protest_meaning b') good size
 protest_opens b n (Err f) b' (bad, is, same) = opening_denied (protest_meaning b) n (protest_meaning b') f bad is (ap protest_meaning same)

@@ -13,6 +13,7 @@ nand_use true true h e = false_is_not_true h
 nand_use true false h e = refl
 nand_use false t h e = false_is_not_true e
 
+-- where t implies s and s is false, t is false
 pub contrapositive : (s t : Bool) → (t ≡ true → s ≡ true) → s ≡ false → t ≡ false
 contrapositive s true f h = false_is_not_true (sym h ∙ f refl)
 contrapositive s false f h = refl

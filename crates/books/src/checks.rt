@@ -1,13 +1,11 @@
-// The checks that every sort of book makes before a change.
-ghost use Rattle.std.specs.Prelude.{◌≡◌, ◌<◌, ◌≤◌, ℕ, Some, None, OnOk, IfErr};
-ghost use Rattle.rulings.specs.Points.{Lowest};
+// The check of a size, which only books make, and a denial by the book.
+ghost use Rattle.std.specs.Prelude.{◌≡◌, OnOk, IfErr};
 ghost use Rattle.answers.specs.declared.fault.Layer.TheVariants.{Book};
-ghost use Rattle.answers.specs.declared.fault.Refusal.TheVariants.{BadSize, NoSuchPoint, StrayMark};
+ghost use Rattle.answers.specs.declared.fault.Refusal.TheVariants.{BadSize};
 ghost use Rattle.answers.specs.Faults.{fault_of};
-ghost use Rattle.books.specs.Promise.{BadSizeFor, strays};
+ghost use Rattle.books.specs.Promise.{BadSizeFor};
 
 use answers::{Fault, Layer, Refusal};
-use rulings::Ruling;
 
 // A denial by the book.
 pub(crate) fn fault(refusal: Refusal) -> Fault
@@ -25,28 +23,5 @@ pub(crate) fn size(size: u8) -> Result<(), Fault>
         Ok(())
     } else {
         Err(fault(Refusal::BadSize))
-    }
-}
-
-// The point is one of the book's.
-pub(crate) fn point(point: u8, size: u8) -> Result<(), Fault>
-    ensures ok { OnOk result (point < size) }
-    ensures err { IfErr result (λ f. (f ≡ fault_of Book (NoSuchPoint point)) × (size ≤ point)) }
-{
-    if point < size {
-        Ok(())
-    } else {
-        Err(fault(Refusal::NoSuchPoint(point)))
-    }
-}
-
-// The two rulings have only points of the book; else the lowest stray one is named.
-pub(crate) fn marks(p: Ruling, q: Ruling, size: u8) -> Result<(), Fault>
-    ensures ok { OnOk result (Lowest (strays size p q) None) }
-    ensures err { IfErr result (λ f. (s : ℕ) × (f ≡ fault_of Book (StrayMark s)) × Lowest (strays size p q) (Some s)) }
-{
-    match p.union(q).first_from(size) {
-        Some(stray) => Err(fault(Refusal::StrayMark(stray))),
-        None => Ok(()),
     }
 }

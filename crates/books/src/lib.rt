@@ -3,6 +3,7 @@
 
 mod book;
 mod checks;
+mod entry;
 mod protest_book;
 mod protesters;
 mod rule_book;
@@ -11,6 +12,7 @@ mod table;
 // What a change answers where it is denied.
 pub use answers::{Fault, Layer, Refusal};
 pub use book::Book;
+pub use entry::Entry;
 pub use protest_book::ProtestBook;
 pub use protest_book::published::{
     protest_chapters_are_evaluated, stable_rulings_are_stable_extensions, sure_points_are_grounded,

@@ -1,24 +1,17 @@
 // The table of entries: a plain store, changed only by its own calls.
-ghost use Rattle.std.specs.Prelude.{◌≡◌, ℕ, ◌<◌, false, not, ◌&&◌, [], ◌∷◌, ◌++◌, length, filter, OnOk, OnErr, IfErr};
+ghost use Rattle.std.specs.Prelude.{◌≡◌, ◌<◌, not, [], ◌∷◌, ◌++◌, length, filter, OnOk, OnErr, IfErr};
 ghost use Rattle.std.specs.List.{list_any};
 ghost use Rattle.rulings.specs.Rulings.{has};
 ghost use Rattle.answers.specs.Faults.{fault_of};
 ghost use Rattle.answers.specs.declared.fault.Layer.TheVariants.{Book};
 ghost use Rattle.answers.specs.declared.fault.Refusal.TheVariants.{BookFull};
-ghost use Rattle.books.specs.Entries.{standing, for_point, covers, avoids, fires, names, looks_at};
+ghost use Rattle.books.specs.Entries.{standing, for_point, fires, looks_at};
 
 use crate::checks;
+use crate::entry::Entry;
 use answers::{Fault, Refusal};
 use arrayvec::ArrayVec;
 use rulings::Ruling;
-
-// An entry (a rule): the point stands if all its supporters do and none of its strikers does.
-#[derive(Clone, Copy)]
-pub(crate) struct Entry {
-    pub(crate) point: u8,
-    pub(crate) supporters: Ruling,
-    pub(crate) strikers: Ruling,
-}
 
 // The entries that stand, oldest first, at most 256.
 #[derive(Drop)]
@@ -80,41 +73,5 @@ impl Table {
         self.entries
             .iter()
             .any(|entry| entry.looks_at(point, other))
-    }
-}
-
-impl Entry {
-    // Whether the point derives by this entry under the pair (x, y).
-    fn fires(&self, point: u8, x: Ruling, y: Ruling) -> bool
-        ensures { result ≡ fires point (has x) (has y) self.now }
-    {
-        self.point == point && self.is_met(x, y)
-    }
-
-    // Whether x has all supporters and y no striker.
-    fn is_met(&self, x: Ruling, y: Ruling) -> bool
-        ensures { result ≡ covers (has x) (has self.now.supporters) && avoids (has y) (has self.now.strikers) }
-    {
-        self.supporters.is_part_of(x) && self.strikers.is_disjoint_from(y)
-    }
-
-    // Whether the entry is for the point and names the other.
-    fn looks_at(&self, point: u8, other: u8) -> bool
-        ensures { result ≡ looks_at point other self.now }
-    {
-        self.point == point && (self.supporters.has(other) || self.strikers.has(other))
-    }
-}
-
-// A blank entry, for a free place of the table.
-impl Default for Entry {
-    ghost is_default = { λ e. (b : ℕ) → names e b ≡ false };
-
-    fn default() -> Entry {
-        Entry {
-            point: 0,
-            supporters: Ruling::empty(),
-            strikers: Ruling::empty(),
-        }
     }
 }

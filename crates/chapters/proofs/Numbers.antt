@@ -1,11 +1,9 @@
 -- The table of chapters: its numbers, and the parts of a ruling that it cuts.
-use Rattle.std.proofs.Common.{◌≡◌, ℕ, ◌<◌, ◌≤◌, Bool, true, cond, ◌&&◌, eqb, ltb, get_or, sym, refl, ◌∙◌, arith, le-ltb, lt-ltb}
+use Rattle.std.proofs.Common.{◌≡◌, ℕ, ◌<◌, ◌≤◌, cond, ◌&&◌, eqb, ltb, get_or, refl, ◌∙◌, arith, le-ltb, lt-ltb}
 use native.Mathlib.Decide.{dec_lt}
 use Rattle.std.proofs.lemmas.List.{get_or-replicate}
 use Rattle.rulings.specs.Rulings.{has}
 use Rattle.rulings.specs.declared.ruling.Ruling.{Ruling}
-use Rattle.rulings.proofs.Bytes.{has_past}
-use Rattle.semantics.proofs.Tests.{false_is_not_true, and_both}
 use Rattle.chapters.specs.declared.chapters.Chapters.{Chapters}
 use Rattle.chapters.specs.Table.{chapter_of, AllInChapter0}
 
@@ -16,14 +14,6 @@ chapter_0_of_16 c all a = go (dec_lt a 128)
     go : Dec (a < 128) → cond (ltb a 128) (get_or c.numbers a 0) 0 < 16
     go (yes l) = rw (lt-ltb a 128 l, all, get_or-replicate {A = ℕ} 128 a 0 0 l) (omega arith)
     go (no n) = rw (le-ltb a 128 (omega (arith, n))) (omega arith)
-
--- a set that a ruling's points are cut to has only points below 128
-pub cut_below : (test : ℕ → Bool) (r : Ruling) (a : ℕ) → test a && has r a ≡ true → a < 128
-cut_below test r a h = go (dec_lt a 128)
-  where
-    go : Dec (a < 128) → a < 128
-    go (yes l) = l
-    go (no n) = false_is_not_true (sym (has_past r a (omega (arith, n))) ∙ (and_both (test a) (has r a) h).1)
 
 -- the points of a chapter, as the table gives them, are the chapter's for every book
 pub points_of_chapter : (c : Chapters) (k n : ℕ) (points : Ruling) → n ≤ 128 → ((a : ℕ) → has points a ≡ ltb a 128 && eqb (chapter_of c a) k) →

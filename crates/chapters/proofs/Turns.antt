@@ -1,25 +1,22 @@
--- The turns of the closure's loop, one after another.
+-- The turns of a climb, one after another.
 use Rattle.std.proofs.Common.{◌≡◌, ℕ, ◌+◌, sym, ap, ◌∙◌, subst, add-one}
-use mathlib.Core.Path.{fun_ext}
 use Rattle.rulings.specs.Points.{Points, Part}
-use Rattle.semantics.specs.Meaning.{Meaning, Lawful}
-use Rattle.semantics.specs.Closure.{Closed, IsClosure}
-use Rattle.semantics.proofs.LeastFixpoint.{iterate}
-use Rattle.semantics.proofs.Closures.{step, settled_is_closure, closure_by_turns}
+use Rattle.rulings.specs.Rulings.{has}
+use Rattle.rulings.specs.declared.ruling.Ruling.{Ruling}
+use Rattle.semantics.proofs.LeastFixpoint.{iterate, settles, within_prefixpoint}
+use Rattle.chapters.specs.Climbing.{StepOf, LeastPrefixpoint}
 
--- each turn takes in what derives from the one before
-module _ (m : Meaning) (l : Lawful m) (y : Points) where
-  pub turn_more : (k : ℕ) (x z : Points) → x ≡ iterate (step m y) k → ((a : ℕ) → z a ≡ m.derives x y a) → z ≡ iterate (step m y) (k + 1)
-  turn_more k x z e derived =
-      rw add-one (fun_ext (λ a. derived a ∙ ap (λ (w : Points). m.derives w y a) e))
+module _ (step : Ruling → Ruling → Type 0) (n : ℕ) (f : Points → Points) (s : StepOf step n f) (k : ℕ) (x : Ruling) (e : has x ≡ iterate f k) where
+  pub climbed_more : (z : Ruling) → step x z → has z ≡ iterate f (k + 1)
+  climbed_more z h = rw add-one (s.taken x z h ∙ ap f e)
 
-  -- nothing new: the closure is found
-  pub turn_settled : (k : ℕ) (x z : Points) → x ≡ iterate (step m y) k → ((a : ℕ) → z a ≡ m.derives x y a) → Part z x → IsClosure m y x
-  turn_settled k x z e derived part =
-      let closed : Closed m y x = λ a h. part a (derived a ∙ h) in
-      subst (IsClosure m y) (sym e) (settled_is_closure m l y k (subst (Closed m y) e closed))
+  reached : Part (f (has x)) (has x) → LeastPrefixpoint f (has x)
+  reached part = record { closed = part; least = λ Z z. subst (λ (y : Points). Part y Z) (sym e) (within_prefixpoint n f s.monotone s.inside Z z k) }
+
+  -- nothing new
+  pub climbed_settled : (z : Ruling) → step x z → Part (has z) (has x) → LeastPrefixpoint f (has x)
+  climbed_settled z h part = reached (subst (λ (y : Points). Part y (has x)) (s.taken x z h) part)
 
   -- as many turns as there are points
-  pub turns_done : (k : ℕ) (x : Points) → k ≡ m.size → x ≡ iterate (step m y) k → IsClosure m y x
-  turns_done k x all e =
-      subst (IsClosure m y) (sym (e ∙ ap (iterate (step m y)) all)) (closure_by_turns m l y)
+  pub climbed_all : k ≡ n → LeastPrefixpoint f (has x)
+  climbed_all all = reached (subst (λ (y : Points). Part (f y) y) (sym (e ∙ ap (iterate f) all)) (settles n f s.monotone s.inside))

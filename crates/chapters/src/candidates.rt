@@ -6,7 +6,7 @@ ghost use Rattle.semantics.specs.Closure.{Stable};
 ghost use Rattle.semantics.specs.Walk.{spread};
 
 use crate::closures::closure;
-use crate::operator::Chapter;
+use crate::operator::chapter::Chapter;
 use books::Book;
 use rulings::Ruling;
 
@@ -15,12 +15,10 @@ pub fn spread(points: Ruling, number: u16) -> Ruling
     ensures { has result ≡ spread (has points) number }
 {
     let mut subset = Ruling::empty();
-    let mut digits = number;
-    for point in (0..128u8).filter(|&point| points.has(point)) {
-        if digits % 2 == 1 {
+    for (point, digit) in points.points().zip(0..u16::BITS) {
+        if (number >> digit) & 1 == 1 {
             subset.insert(point);
         }
-        digits /= 2;
     }
     subset
 }

@@ -4,6 +4,7 @@ ghost use Rattle.rulings.specs.Rulings.{has};
 ghost use Rattle.semantics.specs.Chapters.{in_chapter, below_chapter};
 ghost use Rattle.chapters.specs.Table.{chapter_of, AllInChapter0};
 
+use crate::picking::points_where;
 use rulings::Ruling;
 
 #[derive(Clone, Copy)]
@@ -41,7 +42,14 @@ impl Chapters {
     pub fn points_of(&self, chapter: u8) -> Ruling
         ensures { (a : ℕ) → has result a ≡ nat_lt a 128 && chapter_of self.now a == chapter }
     {
-        Ruling::points_where(128, |point| self.of(point) == chapter)
+        self.points_below(128, chapter)
+    }
+
+    // The points of a chapter below a size (and below 128).
+    pub fn points_below(&self, size: u8, chapter: u8) -> Ruling
+        ensures { (a : ℕ) → has result a ≡ nat_lt a size && (nat_lt a 128 && chapter_of self.now a == chapter) }
+    {
+        points_where(size, |point| self.of(point) == chapter)
     }
 
     // The part of a ruling in a chapter.
@@ -55,6 +63,6 @@ impl Chapters {
     pub fn part_below(&self, chapter: u8, ruling: Ruling) -> Ruling
         ensures { has result ≡ below_chapter (chapter_of self.now) chapter (has ruling) }
     {
-        Ruling::points_where(128, |point| self.of(point) < chapter && ruling.has(point))
+        points_where(128, |point| self.of(point) < chapter && ruling.has(point))
     }
 }

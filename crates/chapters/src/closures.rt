@@ -3,28 +3,21 @@ ghost use Rattle.std.specs.Prelude.{◌≡◌, ℕ};
 ghost use Rattle.rulings.specs.Rulings.{has};
 ghost use Rattle.semantics.specs.Closure.{IsClosure};
 
+use crate::climbing::climb;
 use crate::operator::Operator;
+use crate::picking::points_where;
 use rulings::Ruling;
 
 // The closure of y: from no point on, the points that derive are taken in until nothing is new.
-// As many turns as the book has points are enough.
 pub fn closure<O: Operator>(operator: &O, y: Ruling) -> Ruling
     ensures { IsClosure (O.Operator.meant operator.now) (has y) (has result) }
 {
-    let mut x = Ruling::empty();
-    for _turn in 0..operator.size() {
-        let next = derived(operator, x, y);
-        if next.is_part_of(x) {
-            return x;
-        }
-        x = next;
-    }
-    x
+    climb(operator.size(), |x| derived(operator, x, y))
 }
 
 // The points that derive under the pair (x, y).
 fn derived<O: Operator>(operator: &O, x: Ruling, y: Ruling) -> Ruling
     ensures { (a : ℕ) → has result a ≡ (O.Operator.meant operator.now).derives (has x) (has y) a }
 {
-    Ruling::points_where(operator.size(), |point| operator.derives(point, x, y))
+    points_where(operator.size(), |point| operator.derives(point, x, y))
 }

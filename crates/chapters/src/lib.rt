@@ -3,13 +3,17 @@
 
 mod candidates;
 mod chapters;
+mod climbing;
 mod closures;
 mod fitting;
 mod operator;
+mod picking;
 mod reading;
 
 pub use candidates::{is_stable_over, spread};
 pub use chapters::Chapters;
 pub use closures::closure;
-pub use operator::{Chapter, Operator, Whole};
+pub use operator::Operator;
+pub use operator::chapter::Chapter;
+pub use operator::whole::Whole;
 pub use reading::{Reading, least_pair};

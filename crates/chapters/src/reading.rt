@@ -1,12 +1,15 @@
 // Pairs of rulings: what is sure, and what is possible.
+ghost use Rattle.rulings.specs.Points.{Points};
 ghost use Rattle.rulings.specs.Rulings.{has};
+ghost use Rattle.semantics.specs.Closure.{IsClosure};
 ghost use Rattle.semantics.specs.WellFounded.{LeastPair};
 
+use crate::climbing::climb;
 use crate::closures::closure;
 use crate::operator::Operator;
 use rulings::Ruling;
 
-#[derive(Clone, Copy)]
+#[derive(Clone, Copy, Default)]
 pub struct Reading {
     pub sure: Ruling,
     pub possible: Ruling,
@@ -17,15 +20,17 @@ pub struct Reading {
 pub fn least_pair<M: Operator, W: Operator>(for_sure: &M, for_possible: &W) -> Reading
     ensures { LeastPair (M.Operator.meant for_sure.now) (W.Operator.meant for_possible.now) (has result.sure) (has result.possible) }
 {
-    let mut sure = Ruling::empty();
-    for _turn in 0..for_sure.size() {
-        let possible = closure(for_possible, sure);
-        let next = closure(for_sure, possible);
-        if next.is_part_of(sure) {
-            return Reading { sure, possible };
-        }
-        sure = next;
-    }
+    let sure = climb(
+        for_sure.size(),
+        |sure| two_closures(for_sure, for_possible, sure),
+    );
     let possible = closure(for_possible, sure);
     Reading { sure, possible }
+}
+
+// One closure after the other: what the sure points leave possible, and what is sure then.
+fn two_closures<M: Operator, W: Operator>(for_sure: &M, for_possible: &W, sure: Ruling) -> Ruling
+    ensures { (P : Points) × IsClosure (W.Operator.meant for_possible.now) (has sure) P × IsClosure (M.Operator.meant for_sure.now) P (has result) }
+{
+    closure(for_sure, closure(for_possible, sure))
 }

@@ -11,45 +11,45 @@ pub(crate) fn compare_books(rt: &HostRuntime) -> io::Result<()> {
         rt,
         "Two books compared: 0 and 1 strike each other, as rules and as protests",
     )?;
-    let none = Ruling::empty();
-    let zero = Ruling::from_points(&[0]);
-    let one = Ruling::from_points(&[1]);
-    // the same entries for either sort: 0 unless 1 stands, and 1 unless 0 stands
     let mutual = [
         Call::Open { size: 2 },
-        Call::Enter {
-            point: 0,
-            p: none,
-            q: one,
-        },
+        unless(0, &[1]),
+        unless(1, &[0]),
+        Call::List { rows: 4 },
+    ];
+    // written otherwise: 1 stands also if it stands and 0 does not, which adds no stable ruling and takes none away
+    let wordy = [
+        Call::Open { size: 2 },
+        unless(0, &[1]),
+        unless(1, &[0]),
         Call::Enter {
             point: 1,
-            p: none,
-            q: zero,
+            p: Ruling::from_points(&[1]),
+            q: Ruling::from_points(&[0]),
         },
         Call::List { rows: 4 },
     ];
-    // 0 stands, and 1 unless 0 does
     let settled = [
         Call::Open { size: 2 },
-        Call::Enter {
-            point: 0,
-            p: none,
-            q: none,
-        },
-        Call::Enter {
-            point: 1,
-            p: none,
-            q: zero,
-        },
+        unless(0, &[]),
+        unless(1, &[0]),
         Call::List { rows: 4 },
     ];
-    say_compared(rt, &mutual, &mutual)?;
+    say_compared(rt, &wordy, &mutual)?;
     say::title(rt, "And with a book in which 0 stands unopposed")?;
-    say_compared(rt, &mutual, &settled)?;
+    say_compared(rt, &wordy, &settled)?;
     println!(rt;
         "  Listings are proved equal exactly when the books, read whole, have the same stable rulings: that settles it."
     )
+}
+
+// Enters that a point stands unless one of the strikers does, which either sort of book takes.
+fn unless(point: u8, strikers: &[u8]) -> Call {
+    Call::Enter {
+        point,
+        p: Ruling::empty(),
+        q: Ruling::from_points(strikers),
+    }
 }
 
 // Makes the calls on a rule book and the others on a protest book, and compares their last answers, the listings.

@@ -18,4 +18,6 @@ mod replays;
 #[cfg(test)]
 mod rulings_as_sets;
 #[cfg(test)]
+mod serving;
+#[cfg(test)]
 mod support;

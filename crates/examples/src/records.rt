@@ -3,7 +3,7 @@ use crate::support::each_pair;
 use answers::{Fault, Layer, Refusal};
 use books::{Book, ProtestBook, RuleBook};
 use marker::Marker;
-use reader::{Reader, serve};
+use reader::{Reader, serve, serve_both};
 use rulings::Ruling;
 use std::alloc::{AllocError, Global};
 use std::process::Abort;
@@ -161,6 +161,59 @@ fn buffers_of_1094_and_1095_bytes(rt: HostRuntime) -> Result<(), Fail> {
     assert_eq!(rt; reply[24], 7, "behind the reply the buffer is as found");
     assert_eq!(rt; reader.turn(&mut marker, &mut reply)?, None);
     assert_eq!(rt; reply[0], 0x84);
+    Ok(())
+}
+
+#[test]
+fn too_long_goes_before_too_short(rt: HostRuntime) -> Result<(), Fail> {
+    let mut input = vec![in rt.alloc(); 1u8; 32_769]?;
+    // the first record would open a book of two points
+    input[1] = 2;
+    let mut marker = Marker::new(RuleBook::new());
+    let mut reader = Reader::new(&input);
+    for room in [1_095usize, 1_094, 0, 1_095] {
+        let mut reply = vec![in rt.alloc(); 7u8; room]?;
+        assert_eq!(rt;
+            reader.turn(&mut marker, &mut reply),
+            Err(Fault::new(Layer::Reader, Refusal::InputTooLong))
+        );
+        assert!(rt; reply.iter().all(|byte| *byte == 7), "nothing is written");
+    }
+    assert_eq!(rt;
+        marker.withdraw(1),
+        Err(Fault::new(Layer::Book, Refusal::NoSuchPoint(1))),
+        "nothing is opened"
+    );
+    Ok(())
+}
+
+#[test]
+fn two_inputs_on_two_sorts_of_book(rt: HostRuntime) -> Result<(), Fail> {
+    let mut input = Vec::new(rt.alloc());
+    input.extend_from_slice(&[1, 2])?;
+    add_pairs(&mut input, 1, 0, 0)?;
+    input.push(8)?;
+    let mut other = Vec::new(rt.alloc());
+    // an audit goes before
+    other.push(9)?;
+    other.extend_from_slice(&input)?;
+    let mut rules = Marker::new(RuleBook::new());
+    let mut protests = Marker::new(ProtestBook::new());
+    let replied = serve_both(&mut rules, &input, &mut protests, &other, rt.alloc())?;
+    let mut expected = Vec::new(rt.alloc());
+    // the opening, two entries and two placings
+    expected.extend_from_slice(&[0x81; 5])?;
+    // two rows, at an effort of 4: either point stands alone
+    expected.extend_from_slice(&[0x84, 2, 0, 4, 0, 0, 0])?;
+    for point in [0u8, 1] {
+        expected.push(0x85)?;
+        expected.extend_from_slice(&Ruling::from_points(&[point]).bytes())?;
+    }
+    assert_eq!(rt; replied.first.as_slice(), expected.as_slice());
+    let mut behind_an_audit = Vec::new(rt.alloc());
+    behind_an_audit.extend_from_slice(&[0x86, 0, 0])?;
+    behind_an_audit.extend_from_slice(&expected)?;
+    assert_eq!(rt; replied.second.as_slice(), behind_an_audit.as_slice());
     Ok(())
 }
 

@@ -1,8 +1,8 @@
 // What the tests share: markers to begin with, and entries written as lists of points.
 use answers::Fault;
-use books::{Book, ProtestBook, RuleBook};
+use books::{Book, Entry, ProtestBook, RuleBook};
 use marker::Marker;
-use telling::{Rule, open_example};
+use telling::open_example;
 
 // A rule book of so many points.
 pub(crate) fn opened_book(size: u8) -> Result<RuleBook, Fault> {
@@ -40,7 +40,7 @@ pub(crate) fn enter<B: Book>(
     supporters: &[u8],
     strikers: &[u8],
 ) -> Result<(), Fault> {
-    Rule::new(point, supporters, strikers).enter_into(marker)
+    telling::enter(marker, Entry::new(point, supporters, strikers))
 }
 
 // Gives pairs of points to `add`, from a point on, each with a chapter of its own from a chapter on.

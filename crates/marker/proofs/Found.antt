@@ -1,21 +1,20 @@
 -- The rulings that a walk has found, in row order, in the rows lent.
 use Rattle.std.proofs.Common.{◌≡◌, ℕ, ◌+◌, ◌<◌, ◌≤◌, true, ◌⊎◌, Some, None, Option, List, [], ◌∷◌, ◌++◌, length, take, drop, sym, refl, ap, ◌∙◌, subst, inl, inr, arith}
 use Rattle.std.specs.List.{ContainsAt}
-use Rattle.std.proofs.ByRecursion.{all-has, has_append_left, has_append_right}
+use Rattle.std.proofs.ByRecursion.{all-has, has_append_left, has_append_right, has_append_cases}
 use Rattle.rulings.specs.Points.{Points}
 use Rattle.rulings.specs.Rulings.{has}
 use Rattle.rulings.specs.Order.{Precedes}
 use Rattle.rulings.specs.declared.ruling.Ruling.{Ruling}
 use Rattle.rulings.proofs.RowOrder.{row_order}
-use Rattle.rows.specs.Rows.{PutIn, Inserted}
-use Rattle.rows.proofs.Pairwise.{ByPlaces}
-use Rattle.rows.proofs.Putting.{has_first, has_later, put_length, put_has_row, put_keeps, put_adds_only, put_strictly, put_among, inserted_first, inserted_later, same_later}
-use Rattle.semantics.proofs.Joined.{Distinct, has_none, has_cases, has_one, has_append_cases}
+use Rattle.rows.specs.Rows.{StrictlyInOrder, PutIn, Inserted}
+use Rattle.rows.proofs.Putting.{has_none, has_first, has_later, has_cases, put_length, put_has_row, put_keeps, put_adds_only, put_strictly, put_among, inserted_first, inserted_later, same_later}
+use Rattle.semantics.proofs.Joined.{Distinct, has_one}
 use Rattle.semantics.proofs.RulingOf.{ruling_of, ruling_of_same}
 
 -- the rows are the sets of a list as rulings, in row order
 pub record InRows (xs : List Points) (rows : List Ruling) : Type 0 where
-  pub strict : ByPlaces Precedes rows
+  pub strict : StrictlyInOrder Precedes rows
   pub only : (r : Ruling) → ContainsAt rows r → ContainsAt xs (has r)
   pub each : (x : Points) → ContainsAt xs x → (r : Ruling) × ContainsAt rows r × (has r ≡ x)
 

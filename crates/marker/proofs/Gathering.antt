@@ -2,11 +2,11 @@
 use Rattle.std.proofs.Common.{◌≡◌, ℕ, zero, suc, ◌+◌, ◌-◌, ◌<◌, ◌≤◌, true, false, ◌⊎◌, Some, List, [], length, take, drop, sym, refl, ap, ◌∙◌, subst, inl, inr, arith}
 use Rattle.std.specs.List.{ContainsAt}
 use Rattle.std.proofs.lemmas.List.{length-take-le}
-use Rattle.std.proofs.lemmas.Bool.{cases_lt, cases_Bool}
+use Rattle.std.proofs.lemmas.Bool.{cases_lt, cases_Bool, and_parts}
 use Rattle.rows.specs.Rows.{StrictlyInOrder, PutIn, Inserted}
 use Rattle.rows.proofs.Putting.{put_length, put_has_row, put_keeps, put_adds_only, put_strictly, put_among, inserted_first, inserted_later, same_later}
 use Rattle.semantics.specs.Meaning.{Meaning, Lawful}
-use Rattle.semantics.proofs.Tests.{false_is_not_true, and_both}
+use Rattle.semantics.proofs.Tests.{false_is_not_true}
 use Rattle.answers.specs.declared.audit.UpwardReading.{UpwardReading}
 use Rattle.answers.specs.AuditRows.{AuditedBefore}
 use Rattle.marker.specs.Audit.{AllUpward, reading_row, MoreUpward}
@@ -121,7 +121,7 @@ module _ (m : Meaning) (ch : ℕ → ℕ) where
     gathered_next i n xs all g =
         record {
           upward_only = λ r h. let (a, b, p, u, e) = g.upward_only r h in (a, b, inl (lower a b p), u, e);
-          each_there = λ a b p u. g.each_there a b (within a b p (l.reads_inside a b (and_both (m.reads a b) _ u).0).1) u;
+          each_there = λ a b p u. g.each_there a b (within a b p (l.reads_inside a b (and_parts (m.reads a b) _ u).0).1) u;
           in_order = g.in_order;
         }
       where
@@ -145,7 +145,7 @@ module _ (m : Meaning) (ch : ℕ → ℕ) where
     gathered_all n xs all g =
         record {
           upward_only = λ r h. let (a, b, p, u, e) = g.upward_only r h in (a, b, u, e);
-          each_there = λ a b u. g.each_there a b (inl (omega (arith, (l.reads_inside a b (and_both (m.reads a b) _ u).0).0))) u;
+          each_there = λ a b u. g.each_there a b (inl (omega (arith, (l.reads_inside a b (and_parts (m.reads a b) _ u).0).0))) u;
           in_order = g.in_order;
         }
 

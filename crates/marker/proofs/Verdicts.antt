@@ -4,12 +4,13 @@ use mathlib.Core.Bool.{xor}
 use Rattle.rulings.specs.Points.{Points, Lowest}
 use Rattle.rulings.specs.Rulings.{has}
 use Rattle.rulings.specs.declared.ruling.Ruling.{Ruling}
+use Rattle.rulings.proofs.Differences.{xor_itself}
 use Rattle.semantics.specs.Meaning.{Meaning, Lawful}
 use Rattle.semantics.specs.Chapters.{in_chapter, below_chapter, Fit, Sixteen, chapter, PartStable}
 use Rattle.semantics.proofs.Splitting.{stable_splits}
 use Rattle.semantics.specs.Closure.{IsClosure, Stable as StableIn}
 use Rattle.answers.specs.declared.fault.Fault.{Fault}
-use Rattle.books.specs.Promise.{stray}
+use Rattle.answers.specs.Checks.{stray}
 use Rattle.semantics.proofs.Tests.{false_is_not_true}
 use Rattle.semantics.proofs.Closures.{unique}
 use Rattle.answers.specs.declared.verdict.Verdict.{Verdict}
@@ -17,27 +18,15 @@ use Rattle.answers.specs.declared.verdict.Verdict.TheVariants.{Stable, Unfounded
 use Rattle.answers.specs.Verdicts.{verdict_number, is_stable}
 use Rattle.marker.specs.Judging.{Compares, PartVerdict, ByChapter, Judged}
 
-pub no_difference : (s t : Bool) → xor s t ≡ false → s ≡ t
-unfolding xor
-no_difference true true h = refl
-no_difference true false h = false_is_not_true (sym h)
-no_difference false true h = false_is_not_true (sym h)
-no_difference false false h = refl
-
 pub only_second : (s t : Bool) → xor s t ≡ true → s ≡ false → t ≡ true
 unfolding xor
 only_second true t h e = false_is_not_true (sym e)
 only_second false true h e = refl
 only_second false false h e = false_is_not_true h
 
-self_difference : (s : Bool) → xor s s ≡ false
-unfolding xor
-self_difference true = refl
-self_difference false = refl
-
 -- equal sets have no lowest difference
 no_lowest : {A : Type 0} (y X : Points) (a : ℕ) → y ≡ X → xor (y a) (X a) ≡ true → A
-no_lowest y X a e h = false_is_not_true (sym (subst (λ (Z : Points). xor (y a) (Z a) ≡ false) e (self_difference (y a))) ∙ h)
+no_lowest y X a e h = false_is_not_true (sym (subst (λ (Z : Points). xor (y a) (Z a) ≡ false) e (xor_itself (y a))) ∙ h)
 
 other_verdict : {A : Type 0} (v w : Verdict) → v ≡ w → (verdict_number v ≡ verdict_number w → ⊥) → A
 other_verdict v w e n = absurd (n (ap verdict_number e))

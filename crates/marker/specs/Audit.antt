@@ -35,7 +35,8 @@ Audited m ch found (Err f) left =
     × MoreUpward m ch (length found)
     × (left ≡ replicate (length found) zero_row)
 
--- what an audit leaves before it answers: nothing where the rows do not suffice; no public contract cites this
+-- gathering the readings before an audit answers: as an audit does, but rows that do not suffice are left in any way;
+-- no public contract cites this
 abbrev pub Gathers : Meaning → (ℕ → ℕ) → List UpwardReading → Option ℕ → List UpwardReading → Type 0
 Gathers m ch found (Some n) left =
     (n ≤ length found) × AllUpward m ch (take n left) × (drop n left ≡ drop n found)

@@ -7,11 +7,9 @@ use Rattle.rulings.specs.declared.ruling.Ruling.{Ruling}
 use Rattle.semantics.specs.Meaning.{Meaning}
 use Rattle.semantics.specs.Closure.{IsClosure, Stable as StableIn}
 use Rattle.semantics.specs.Chapters.{in_chapter, below_chapter, Fit, chapter, PartStable}
-use Rattle.answers.specs.declared.fault.Refusal.TheVariants.{StrayMark}
 use Rattle.answers.specs.declared.fault.Layer.TheVariants as layer
 use Rattle.answers.specs.declared.fault.Fault.{Fault}
-use Rattle.answers.specs.Faults.{fault_of}
-use Rattle.books.specs.Promise.{stray}
+use Rattle.answers.specs.Checks.{stray, MarkDenied}
 use Rattle.answers.specs.declared.verdict.Verdict.{Verdict}
 use Rattle.answers.specs.declared.verdict.ChapterVerdict.{ChapterVerdict}
 use Rattle.chapters.specs.Fitting.{UpwardDenied}
@@ -28,9 +26,9 @@ Compares y X (Missing a) = Lowest (λ b. xor (y b) (X b)) (Some a) × (X a ≡ t
 abbrev pub NoStray : Meaning → Ruling → Type 0
 NoStray m r = Lowest (stray m.size (has r)) None
 
--- denied by the marker for a stray mark, the lowest point that the book does not have
+-- denied by the marker for a stray mark, the lowest point of the ruling that the book does not have
 abbrev pub StrayDenied : Meaning → Ruling → Fault → Type 0
-StrayDenied m r f = (s : ℕ) × (f ≡ fault_of layer.Marker (StrayMark s)) × Lowest (stray m.size (has r)) (Some s)
+StrayDenied m r = MarkDenied layer.Marker m.size (has r)
 
 -- Judging a ruling by a book: denied for a stray mark, the lowest point that the book does not have;
 -- else the verdict on the ruling beside its closure.
@@ -53,7 +51,7 @@ ByChapter m ch y v None = (v ≡ Stable) × ((k : ℕ) → k < 16 → PartStable
 ByChapter m ch y v (Some k) =
     (k < 16) × ((j : ℕ) → j < k → PartStable m ch y j) × (v ≢ Stable) × PartVerdict m ch y k v
 
--- Judging a ruling by chapters: denied for a stray mark, then for chapters that do not fit.
+-- Judging a ruling by chapters: denied for a stray mark, then for chapters that do not fit; else the verdict by chapters.
 abbrev pub JudgedByChapter : Meaning → (ℕ → ℕ) → Ruling → Result ChapterVerdict Fault → Type 0
 JudgedByChapter m ch r (Err f) =
     StrayDenied m r f ⊎ (NoStray m r × UpwardDenied m ch f)

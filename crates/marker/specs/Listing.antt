@@ -21,7 +21,7 @@ abbrev pub WideDenied : Meaning → (ℕ → ℕ) → Fault → Type 0
 WideDenied m ch f =
     (k : ℕ) × (f ≡ fault_of layer.Marker (ChapterTooWide k)) × (k < 16) × (12 < width m ch k) × ((j : ℕ) → j < k → width m ch j ≤ 12)
 
--- every row is the empty ruling, sixteen bytes zero
+-- there are as many rows as were found, and every one is the empty ruling, sixteen bytes zero
 abbrev pub AllEmpty : List Ruling → List Ruling → Type 0
 AllEmpty found left =
     (length left ≡ length found) × ((i : ℕ) (d : Ruling) → i < length left → (a : ℕ) → has (slice_index_or left i d) a ≡ false)
@@ -41,13 +41,10 @@ TriedInVain m ch n f =
     × (((f ≡ fault_of layer.Marker TooMuchToTry) × (65536 < e)) ⊎ ((f ≡ fault_of layer.Marker ListTooShort) × (e ≤ 65536) × MoreStable m ch n)))
 
 -- Listing: all rulings whose parts are all stable, each once, in row order, their number and the effort; later rows as found.
--- Denied, in this order: chapters that do not fit, a chapter too wide (rows as found); too much to try, list too short (every row empty).
+-- Denied before anything is tried, it leaves the rows as found; denied after trying, it leaves every row empty.
 abbrev pub Listed : Meaning → (ℕ → ℕ) → List Ruling → Result Listing Fault → List Ruling → Type 0
 Listed m ch found (Ok l) left =
     Fit m ch × NoneWide m ch × Effort m ch l.effort × (l.effort ≤ 65536) × (l.rows ≤ length found)
     × AllInRowOrder (AllPartsStable m ch) (take l.rows left) × (drop l.rows left ≡ drop l.rows found)
 Listed m ch found (Err f) left =
-    (UpwardDenied m ch f × (left ≡ found))
-    ⊎ ((Fit m ch × WideDenied m ch f × (left ≡ found))
-    ⊎ ((Fit m ch × NoneWide m ch × (f ≡ fault_of layer.Marker TooMuchToTry) × ((e : ℕ) × Effort m ch e × (65536 < e)) × AllEmpty found left)
-    ⊎ (Fit m ch × NoneWide m ch × (f ≡ fault_of layer.Marker ListTooShort) × ((e : ℕ) × Effort m ch e × (e ≤ 65536)) × MoreStable m ch (length found) × AllEmpty found left)))
+    (NotTried m ch f × (left ≡ found)) ⊎ (TriedInVain m ch (length found) f × AllEmpty found left)

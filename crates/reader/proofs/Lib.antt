@@ -1,4 +1,4 @@
--- Lemmas on lists of bytes and blocks, on records and replies as encodings, on what stands at a place, on calls carried out, on streams and their law.
+-- Lemmas on lists of bytes and blocks, on records and replies as encodings, on what stands at a place, on calls carried out, on streams and their law, of one input and of two.
 pub mod Blocks
 pub mod Encodings
 pub mod Readback
@@ -6,4 +6,5 @@ pub mod Reading
 pub mod StreamLaws
 mod Fronts
 mod Outcomes
-mod Streaming
+pub mod Pairs
+pub mod Streaming

@@ -1,6 +1,7 @@
 -- The law of two streams: from bytes to what was told, and then by the law of two histories.
 use Rattle.std.proofs.Common.{◌≡◌, ℕ, ◌⊎◌, ◌↔◌, List, ◌∷◌, ◌++◌, length, get_or, sym, refl, ap, ◌∙◌, subst, ap₂, inl, inr, arith}
 use Rattle.std.specs.List.{flat_map}
+use Rattle.std.proofs.Math.Logic.{⊎_map}
 use Rattle.rulings.specs.Rulings.{has}
 use Rattle.rulings.specs.declared.ruling.Ruling.{Ruling}
 use Rattle.semantics.specs.Meaning.{Meaning}
@@ -12,15 +13,16 @@ use Rattle.answers.specs.declared.verdict.ChapterVerdict.{ChapterVerdict}
 use Rattle.answers.specs.Verdicts.{verdict_number}
 use Rattle.books.specs.declared.book.Book.{Ghosts as Sort}
 use Rattle.marker.specs.declared.marker.Marker.{Marker}
-use Rattle.runs.specs.History.{AskedAt}
+use Rattle.runs.specs.History.{AskedAt, Unchanged}
 use Rattle.runs.specs.Law.{Law, Either, NotDenied}
-use Rattle.runs.specs.Step.{Kind, to_judge, to_judge_by_chapter, to_read, to_list}
-use Rattle.runs.specs.Told.{Told, verdict, chapter_verdict, reading, listing, denied}
+use Rattle.runs.specs.Step.{Kind, to_judge, to_judge_by_chapter, to_read, to_list, to_change, means}
+use Rattle.marker.specs.State.{placing}
+use Rattle.runs.specs.Told.{Told, done, verdict, chapter_verdict, reading, listing, denied}
 use Rattle.runs.proofs.CallKinds.{Promises}
 use Rattle.runs.proofs.Laws.{marker_law}
 use Rattle.reader.specs.Replies.{least_first, fault_reply, ruling_row, reply_of}
 use Rattle.reader.specs.Streams.{Stream, offset}
-use Rattle.reader.specs.StreamLaw.{InEither, Begins, without_effort, Denies, RepliesStable, VerdictsAgree, StreamLaw}
+use Rattle.reader.specs.StreamLaw.{InEither, Begins, without_effort, Denies, RepliesStable, NoChangeAccepted, VerdictsAgree, StreamLaw}
 use mathlib.Core.List.{tail-eq_of_cons-eq as same_tail}
 use Rattle.reader.proofs.Encodings.{denial_told, stable_number, same_ruling_rows, same_reading_reply}
 
@@ -76,6 +78,19 @@ module _ {B : Type 0} (S : Sort B) (p : Promises S) {s e : Marker B} {input outp
   abbrev own_law : Law X.history X.history
   own_law = marker_law S S p p s e s e X.calls X.calls X.answers X.answers X.history X.history
 
+  -- a change that told done was replied to with the byte of that
+  unchanged : (i j : ℕ) → NoChangeAccepted X i j → Unchanged X.history i j
+  unchanged i j none =
+      record {
+        later = none.later;
+        denied = λ n c t low high made answered change is.
+            let m = means S.meaning (X.history.moment n) in
+            let ch = placing (X.history.moment n) in
+            let o = offset X.calls n in
+            let asked : AskedAt X.history n to_change m ch t = record { call = c; made = made; of_kind = change; answered = answered; meant = refl; placed = refl } in
+            none.denied n m ch (reply_of o t) low high (record { told = t; asked = asked; bytes = refl }) (begins_as 129 o t done is refl);
+      }
+
   agree : VerdictsAgree X
   agree y i j m m' ch ch' reply reply' r r' begins begins' un =
       let v = (own_law.judging_given y m ch r.told (inl (i, r.asked))).0
@@ -84,7 +99,8 @@ module _ {B : Type 0} (S : Sort B) (p : Promises S) {s e : Marker B} {input outp
       (not_denied (offset X.calls j) r'.told reply' r'.bytes 130 (λ z. omega arith) begins') in
       let both = own_law.judgings_agree y i j m m' ch ch' v.0 w.0
       (subst (AskedAt X.history i (to_judge y) m ch) v.1 r.asked)
-      (subst (AskedAt X.history j (to_judge_by_chapter y) m' ch') w.1 r'.asked) un in (
+      (subst (AskedAt X.history j (to_judge_by_chapter y) m' ch') w.1 r'.asked)
+      (⊎_map (unchanged i j) (unchanged j i) un) in (
         both.0,
         through (says_stable reply v.0 (second_of (offset X.calls i) r.told (verdict v.0) reply r.bytes v.1)) both.1,
         through (says_stable reply' w.0.verdict (second_of (offset X.calls j) r'.told (chapter_verdict w.0) reply' r'.bytes w.1)) both.2,

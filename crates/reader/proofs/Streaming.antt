@@ -34,6 +34,14 @@ replies_push o (d ∷ cs) c (u ∷ ts) t each =
     ∙ ap (λ n. reply_of o u ++ (replies (o + length (record_of d)) cs ts ++ reply_of n t)) further
     ∙ sym (append_assoc (reply_of o u) (replies (o + length (record_of d)) cs ts) (reply_of (o + length (records_of (d ∷ cs))) t))
 
+-- all calls of a stream, as the first of its input
+pub so_far : {B : Type 0} (S : Sort B) (start : Marker B) (input output : List ℕ) (end : Marker B) → Stream S start input output end → ServedSoFar S start input end
+so_far S start input output end x = (x.calls, x.answers, (x.read.lends, (x.read.tail, x.read.bytes)), x.history)
+
+-- no call yet
+pub not_begun : {B : Type 0} (S : Sort B) (start : Marker B) (input : List ℕ) → ServedSoFar S start input start
+not_begun S start input = ([], [], (λ c h. absurd (omega (arith, h.1)), (input, refl)), nothing (marker_calls S) start)
+
 module _ {B : Type 0} (S : Sort B) (start : Marker B) (input : List ℕ) where
   -- so far: the place is behind the records of some calls, and all of these are answered
   pub record SoFar (place : ℕ) (output : List ℕ) (now : Marker B) : Type 0 where
@@ -103,8 +111,8 @@ module _ {B : Type 0} (S : Sort B) (start : Marker B) (input : List ℕ) where
 
   -- where memory runs out
   pub broken_off : (place : ℕ) (output : List ℕ) (now : Marker B) → UnderWay place output now → ServedSoFar S start input now
-  broken_off place output now (inl w) = (w.calls, w.answers, drop place input, w.lends, w.bytes, w.history)
-  broken_off place output now (inr (_, x)) = (x.calls, x.answers, x.read.tail, x.read.lends, x.read.bytes, x.history)
+  broken_off place output now (inl w) = (w.calls, w.answers, (w.lends, (drop place input, w.bytes)), w.history)
+  broken_off place output now (inr (_, x)) = so_far S start input output now x
 
   -- after a record that was taken: the stream is under way with its reply put out, and there is less to read
   pub record Further (place place' : ℕ) (output reply : List ℕ) (now' : Marker B) : Type 0 where

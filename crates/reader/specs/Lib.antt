@@ -1,4 +1,5 @@
--- Records and replies: their formats, one turn of the reader, whole streams, and the law of two streams.
+-- Records and replies: their formats, why a record cannot be read, one turn of the reader, whole streams, and the law of two
+-- streams. `Carrying` is cited by no public contract.
 pub mod Records
 pub mod Replies
 pub mod Unreadable

@@ -1,5 +1,5 @@
 -- The law of two streams: what the replies say of the books, read whole.
-use Rattle.std.specs.Prelude.{◌≡◌, ℕ, ◌≤◌, ◌⊎◌, ◌↔◌, List, ◌++◌, length, take, drop, slice_index}
+use Rattle.std.specs.Prelude.{◌≡◌, ℕ, ◌<◌, ◌≤◌, ◌⊎◌, ◌↔◌, List, ◌++◌, length, take, drop, slice_index}
 use Rattle.rulings.specs.Rulings.{has}
 use Rattle.rulings.specs.declared.ruling.Ruling.{Ruling}
 use Rattle.semantics.specs.Meaning.{Meaning}
@@ -11,12 +11,13 @@ use Rattle.books.specs.declared.book.Book.{Ghosts as Sort}
 use Rattle.chapters.specs.Fitting.{UpwardDenied}
 use Rattle.marker.specs.declared.marker.Marker.{Marker}
 use Rattle.marker.specs.Judging.{StrayDenied}
-use Rattle.runs.specs.History.{AskedAt, Unchanged}
-use Rattle.runs.specs.Law.{SameStable, SameModel, ByChapterDenied, ListingDenied}
-use Rattle.runs.specs.Step.{Kind, to_judge, to_judge_by_chapter, to_read, to_list}
+use Rattle.runs.specs.declared.call.Call.{Call}
+use Rattle.runs.specs.History.{AskedAt}
+use Rattle.runs.specs.Law.{SameStable, SameModel, ByChapterDenied, ListingDenied, Compared}
+use Rattle.runs.specs.Step.{Kind, to_judge, to_judge_by_chapter, to_read, to_list, to_change, marker_calls}
 use Rattle.runs.specs.Told.{Told, reading, listing}
 use Rattle.reader.specs.Replies.{fault_reply, reply_of}
-use Rattle.reader.specs.Streams.{Stream, offset, TooLong}
+use Rattle.reader.specs.Streams.{Stream, offset, TooLong, BeginsWith}
 
 -- record i of a stream, of this kind, was replied to with these bytes, when the book meant m, in the chapters ch
 pub record RepliedAt {B : Type 0} {S : Sort B} {s e : Marker B} {input output : List ℕ} (X : Stream S s input output e) (i : ℕ) (q : Kind) (m : Meaning) (ch : ℕ → ℕ) (reply : List ℕ) : Type 0 where
@@ -24,10 +25,11 @@ pub record RepliedAt {B : Type 0} {S : Sort B} {s e : Marker B} {input output : 
   pub asked : AskedAt X.history i q m ch told
   pub bytes : reply ≡ reply_of (offset X.calls i) told
 
--- some record at this offset, in the one stream or in the other
+-- some record of the stream, at this offset
 abbrev pub RepliedIn : {B : Type 0} {S : Sort B} {s e : Marker B} {input output : List ℕ} → Stream S s input output e → ℕ → Kind → Meaning → (ℕ → ℕ) → List ℕ → Type 0
 RepliedIn X o q m ch reply = (i : ℕ) × (o ≡ offset X.calls i) × RepliedAt X i q m ch reply
 
+-- a record at this offset, in the one stream or in the other
 abbrev pub InEither : {B C : Type 0} {S : Sort B} {S' : Sort C} {s e : Marker B} {s' e' : Marker C} {input output input' output' : List ℕ} →
     Stream S s input output e → Stream S' s' input' output' e' → ℕ → Kind → Meaning → (ℕ → ℕ) → List ℕ → Type 0
 InEither X Y o q m ch reply = RepliedIn X o q m ch reply ⊎ RepliedIn Y o q m ch reply
@@ -48,13 +50,19 @@ Denies o reply = (f : Fault) × (reply ≡ fault_reply o f)
 abbrev pub RepliesStable : List ℕ → Type 0
 RepliesStable reply = slice_index reply 1 ≡ 0
 
+-- between the records i and j no change of the book was accepted: no record that opens, enters or withdraws was replied to
+-- with the byte of a change that is done
+pub record NoChangeAccepted {B : Type 0} {S : Sort B} {s e : Marker B} {input output : List ℕ} (X : Stream S s input output e) (i j : ℕ) : Type 0 where
+  pub later : i < j
+  pub denied : (n : ℕ) (m : Meaning) (ch : ℕ → ℕ) (reply : List ℕ) → i < n → n < j → RepliedAt X n to_change m ch reply → Begins 129 reply → ⊥
+
 -- a ruling judged whole by record i and by chapter by record j, in either order, neither denied, and no change of the book
 -- accepted in between: both replies say stable if it is stable in the book read whole, and else neither does
 abbrev pub VerdictsAgree : {B : Type 0} {S : Sort B} {s e : Marker B} {input output : List ℕ} → Stream S s input output e → Type 0
 VerdictsAgree X =
     (y : Ruling) (i j : ℕ) (m m' : Meaning) (ch ch' : ℕ → ℕ) (reply reply' : List ℕ) →
     RepliedAt X i (to_judge y) m ch reply → RepliedAt X j (to_judge_by_chapter y) m' ch' reply' → Begins 130 reply → Begins 130 reply' →
-    Unchanged X.history i j ⊎ Unchanged X.history j i →
+    NoChangeAccepted X i j ⊎ NoChangeAccepted X j i →
     (m ≡ m') × (RepliesStable reply ↔ Stable m (has y)) × (RepliesStable reply' ↔ Stable m (has y))
 
 -- The law. In each clause a record stands at offset o, its book means m, and the points lie in the chapters ch.
@@ -104,3 +112,16 @@ LawfulStream {B} S s input output e =
 -- Serving an input: it is too long; or all of it is a stream, with its law.
 abbrev pub Served : {B : Type 0} → Sort B → Marker B → List ℕ → List ℕ → Marker B → Type 0
 Served S s input output e = TooLong s input output e ⊎ ((length input ≤ 32768) × LawfulStream S s input output e)
+
+-- Two inputs served, on two markers: each as it is served alone, and the law across the two streams.
+pub record ServedBoth {B C : Type 0} (S : Sort B) (s : Marker B) (input output : List ℕ) (e : Marker B) (S' : Sort C) (s' : Marker C) (input' output' : List ℕ) (e' : Marker C) : Type 0 where
+  pub first : Served S s input output e
+  pub second : Served S' s' input' output' e'
+  pub law : (X : Stream S s input output e) (Y : Stream S' s' input' output' e') → StreamLaw X Y
+
+-- where memory ran out: each marker stands at the end of a history of the first calls of its input, and the law of two runs
+-- holds of the two
+abbrev pub ServedBothSoFar : {B C : Type 0} → Sort B → Marker B → List ℕ → Marker B → Sort C → Marker C → List ℕ → Marker C → Type 0
+ServedBothSoFar S s input e S' s' input' e' =
+    (calls : List Call) × (calls' : List Call) × (answers : List Told) × (answers' : List Told)
+    × BeginsWith calls input × BeginsWith calls' input' × Compared (marker_calls S) s calls answers e (marker_calls S') s' calls' answers' e'

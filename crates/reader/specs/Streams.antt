@@ -43,8 +43,12 @@ abbrev pub TooLong : {B : Type 0} → Marker B → List ℕ → List ℕ → Mar
 TooLong start input output end =
     (32768 < length input) × (output ≡ fault_reply 0 (reader_fault InputTooLong)) × (end ≡ start)
 
+-- the input begins with the records of these calls
+abbrev pub BeginsWith : List Call → List ℕ → Type 0
+BeginsWith calls input =
+    ((c : Call) → ContainsAt calls c → Lends64 c) × ((rest : List ℕ) × (input ≡ records_of calls ++ rest))
+
 -- where memory ran out: the marker stands at the end of a history of the first calls of the input
 abbrev pub ServedSoFar : {B : Type 0} → Sort B → Marker B → List ℕ → Marker B → Type 0
 ServedSoFar S start input end =
-    (calls : List Call) × (answers : List Told) × (rest : List ℕ)
-    × ((c : Call) → ContainsAt calls c → Lends64 c) × (input ≡ records_of calls ++ rest) × History (marker_calls S) start calls answers end
+    (calls : List Call) × (answers : List Told) × BeginsWith calls input × History (marker_calls S) start calls answers end

@@ -26,6 +26,7 @@ Does S input (Ok (Some r)) at s reply at' s' =
 Does S input (Err why) at s reply at' s' =
     (reply ≡ Some (fault_reply at (reader_fault (refusal_of why)))) × (at' ≡ length input) × (s' ≡ s)
 
+-- the record at the front of what is left is done, and its reply, if there is one, is this
 abbrev pub TakesRecord : {B : Type 0} → Sort B → List ℕ → ℕ → Marker B → Option (List ℕ) → ℕ → Marker B → Type 0
 TakesRecord S input at s reply at' s' = (f : Front) × AtFront (drop at input) f × Does S input f at s reply at' s'
 

@@ -16,5 +16,5 @@ pub use front::{Record, front_of};
 pub use laws::{records_read_back, replies_determine_answers, streams_keep_the_law};
 pub use limits::{LONGEST_INPUT, LONGEST_REPLY};
 pub use reader::Reader;
-pub use serving::serve;
+pub use serving::{BothReplies, serve, serve_both};
 pub use unreadable::Unreadable;

@@ -1,7 +1,7 @@
-// All records of an input, one after another.
+// All records of an input, one after another; of two inputs, side by side.
 ghost use Rattle.std.specs.Prelude.{MatchResult};
 ghost use Rattle.reader.specs.Streams.{ServedSoFar};
-ghost use Rattle.reader.specs.StreamLaw.{Served};
+ghost use Rattle.reader.specs.StreamLaw.{Served, ServedBoth, ServedBothSoFar};
 
 use crate::reader::Reader;
 use crate::replies::denial;
@@ -28,4 +28,32 @@ pub fn serve<B: Book>(
         replies.extend_from_slice(reply.as_slice())?;
     }
     Ok(replies)
+}
+
+// The replies to two inputs.
+#[derive(Drop)]
+pub struct BothReplies {
+    pub first: Vec<u8>,
+    pub second: Vec<u8>,
+}
+
+// Serves two inputs, on two markers over any two books. The law holds of the two streams: what is denied, listed, read
+// and judged in them is what the books, read whole at those moments, mean; so two listings, effort aside, are equal
+// exactly when their books have the same stable rulings. Where memory runs out, both markers stand at the ends of
+// histories of the first calls.
+pub fn serve_both<B: Book, C: Book>(
+    first: &mut Marker<B>,
+    input: &[u8],
+    second: &mut Marker<C>,
+    other: &[u8],
+    heap: Global,
+) -> Result<BothReplies, AllocError>
+    ensures { MatchResult result (λ v. ServedBoth B.Book first.old input.now v.first.items first.new C.Book second.old other.now v.second.items second.new) (λ _. ServedBothSoFar B.Book first.old input.now first.new C.Book second.old other.now second.new) }
+{
+    let replies = serve(first, input, heap)?;
+    let others = serve(second, other, heap)?;
+    Ok(BothReplies {
+        first: replies,
+        second: others,
+    })
 }

@@ -1,15 +1,10 @@
 -- The rows at the end that a row comes before moved one place on, and the row put into the gap.
-use Rattle.std.proofs.Common.{◌≡◌, ℕ, ◌+◌, ◌-◌, ◌<◌, ◌≤◌, Bool, Some, List, [], ◌∷◌, ◌++◌, length, get_or, take, drop, set, sym, refl, ap, ap₂, ◌∙◌, subst, append_assoc, arith, length-append, reverse}
-use Rattle.std.specs.Ordering.{is_lt}
-use Rattle.std.specs.declared.cmp.Ordering.{Ordering}
-use Rattle.std.specs.List.{suffix_len, copy_within}
+use Rattle.std.proofs.Common.{◌≡◌, ℕ, ◌+◌, ◌-◌, ◌<◌, ◌≤◌, Some, List, [], ◌∷◌, ◌++◌, length, get_or, take, drop, set, sym, refl, ap, ap₂, ◌∙◌, subst, append_assoc, arith, length-append}
+use Rattle.std.specs.List.{copy_within}
 use Rattle.std.proofs.ByRecursion.{All-from_get_or}
-use Rattle.std.proofs.lemmas.Bool.{both_ways}
-use Rattle.std.proofs.lemmas.List.{take-append-drop, take_more, take-take, drop-take, length-take-le, length-drop, length-reverse, get_or_at, get_or-drop, get_or-reverse, set_at}
-use Rattle.std.proofs.lemmas.List.Sums.{prefix_len_passes, prefix_len_stops, suffix_len-le-length}
-use Rattle.rulings.specs.Order.{StrictTotal, IsOrderOf}
-use Rattle.rulings.proofs.Orders.{lt_is_less}
-use Rattle.rows.specs.Rows.{PutIn, Inserted}
+use Rattle.std.proofs.lemmas.List.{take-append-drop, take_more, take-take, drop-take, length-take-le, length-drop, get_or_at, get_or-drop, set_at}
+use Rattle.rulings.specs.Order.{StrictTotal}
+use Rattle.rows.specs.Rows.{PutIn, Inserted, Behind}
 use Rattle.rows.proofs.Putting.{put_in_order}
 
 -- what a write into the gap leaves
@@ -39,33 +34,10 @@ gap_filled {A} row xs place count within room =
         ∙ append_assoc (take place xs ++ get_or xs place row ∷ []) back later
         ∙ append_assoc (take place xs) (get_or xs place row ∷ []) (back ++ later)
 
-module _ {A : Type 0} (cmp : A → A → Ordering) (before : A → A → Type 0) (ordered : IsOrderOf cmp before) (row : A) where
-  abbrev comes_before : A → Bool
-  comes_before x = is_lt (cmp row x)
-
+module _ {A : Type 0} (before : A → A → Type 0) (order : StrictTotal before) (row : A) where
   -- a row goes in behind the last that it does not come before
-  module _ (ys : List A) where
-    moved_le : suffix_len comes_before ys ≤ length ys
-    moved_le = suffix_len-le-length comes_before ys
-
-    passes : (j : ℕ) (d : A) → length ys - suffix_len comes_before ys ≤ j → j < length ys → before row (get_or ys j d)
-    passes j d l h =
-        let i : ℕ = length ys - 1 - j in
-        let e : length ys - 1 - i ≡ j = omega arith in
-        (lt_is_less ordered row (get_or ys j d)).0
-        (sym (ap comes_before (get_or-reverse ys i d (omega arith) ∙ ap (λ (n : ℕ). get_or ys n d) e))
-        ∙ prefix_len_passes comes_before (reverse ys) i d (omega (arith, moved_le)))
-
-    stops : (d : A) → 0 < length ys - suffix_len comes_before ys → before row (get_or ys (length ys - suffix_len comes_before ys - 1) d) → ⊥
-    stops d h b =
-        let k : ℕ = suffix_len comes_before ys in
-        let e : length ys - 1 - k ≡ length ys - k - 1 = omega arith in
-        both_ways _
-        (sym (ap comes_before (get_or-reverse ys k d (omega (arith, moved_le)) ∙ ap (λ (n : ℕ). get_or ys n d) e))
-        ∙ prefix_len_stops comes_before (reverse ys) d (omega (arith, length-reverse ys)))
-        ((lt_is_less ordered row _).1 b)
-
-    put_behind_last : (place : ℕ) → place ≡ length ys - suffix_len comes_before ys → PutIn before row ys (take place ys ++ row ∷ drop place ys)
+  module _ (ys : List A) (n : ℕ) (those : Behind before row ys n) where
+    put_behind_last : (place : ℕ) → place ≡ length ys - n → PutIn before row ys (take place ys ++ row ∷ drop place ys)
     put_behind_last place is =
         record {
           front = take place ys;
@@ -73,11 +45,11 @@ module _ {A : Type 0} (cmp : A → A → Ordering) (before : A → A → Type 0)
           split = sym (take-append-drop place ys);
           result = refl;
           ahead_of = All-from_get_or (before row) (drop place ys) row
-              (λ i h. subst (before row) (sym (get_or-drop place ys i row)) (passes (place + i) row (omega arith) (omega (arith, length-drop place ys))));
+              (λ i h. subst (before row) (sym (get_or-drop place ys i row)) (those.passed (place + i) row (omega arith) (omega (arith, length-drop place ys))));
           behind = λ rest last e b.
               let long : length rest + 1 ≡ place = omega (arith, ap length e, length-append rest (last ∷ []), length-take-le place ys (omega arith)) in
               let there : get_or ys (place - 1) row ≡ last = last_there rest last e long in
-              stops row (omega arith) (subst (before row) (sym there ∙ ap (λ (n : ℕ). get_or ys (n - 1) row) is) b);
+              those.stopped row (omega (arith, those.few)) (subst (before row) (sym there ∙ ap (λ (n : ℕ). get_or ys (n - 1) row) is) b);
         }
       where
         last_there : (rest : List A) (last : A) → take place ys ≡ rest ++ last ∷ [] → length rest + 1 ≡ place → get_or ys (place - 1) row ≡ last
@@ -85,9 +57,9 @@ module _ {A : Type 0} (cmp : A → A → Ordering) (before : A → A → Type 0)
             ap (λ (zs : List A). get_or zs (place - 1) row) (sym (take-append-drop place ys) ∙ ap (λ (zs : List A). zs ++ drop place ys) e ∙ append_assoc rest (last ∷ []) (drop place ys))
             ∙ get_or_at rest last (drop place ys) row (place - 1) (omega arith)
 
-  pub moved_and_put : StrictTotal before → (xs : List A) (count moved : ℕ) → count < length xs → moved ≡ suffix_len comes_before (take count xs) →
+  pub moved_and_put : (xs : List A) (count moved : ℕ) → count < length xs → Behind before row (take count xs) moved →
       Inserted before xs count row (Some (count + 1)) (set (copy_within xs (count - moved) count (count - moved + 1)) (count - moved) row)
-  moved_and_put strict xs count moved room is =
+  moved_and_put xs count moved room those =
       let long : length (take count xs) ≡ count = length-take-le count xs (omega arith) in
-      let put = put_behind_last (take count xs) (count - moved) (ap₂ ◌-◌ (sym long) is) in
-      (room, (_, put, gap_filled row xs (count - moved) count (omega arith) room, put_in_order before strict row (take count xs) _ put), refl)
+      let put = put_behind_last (take count xs) moved those (count - moved) (ap (λ (k : ℕ). k - moved) (sym long)) in
+      (room, (_, put, gap_filled row xs (count - moved) count (omega arith) room, put_in_order before order row (take count xs) _ put), refl)

@@ -1,24 +1,20 @@
 -- Lists whose elements stand pairwise in a relation, each to all later ones.
-use Rattle.std.proofs.Common.{ℕ, zero, suc, ◌<◌, List, [], ◌∷◌, ◌++◌, length, get_or, arith}
-use Rattle.std.specs.List.{AllByRecursion}
+use Rattle.std.proofs.Common.{zero, suc, List, [], ◌∷◌, ◌++◌, arith}
+use Rattle.std.specs.List.{AllByRecursion, AllPairs}
 use Rattle.std.proofs.ByRecursion.{All-get_or, All-from_get_or}
 
 module _ {A : Type 0} (R : A → A → Type 0) where
-  -- each element stands to all later ones in R, by places
-  abbrev pub ByPlaces : List A → Type 0
-  ByPlaces xs = (i j : ℕ) (d : A) → i < j → j < length xs → R (get_or xs i d) (get_or xs j d)
-
-  -- the same, element by element
+  -- each element stands to all later ones in R, element by element
   abbrev pub Pairwise : List A → Type 0
   Pairwise [] = Unit {0}
   Pairwise (x ∷ xs) = AllByRecursion (R x) xs × Pairwise xs
 
-  pub from_places : (xs : List A) → ByPlaces xs → Pairwise xs
+  pub from_places : (xs : List A) → AllPairs R xs → Pairwise xs
   from_places [] p = tt
   from_places (x ∷ xs) p =
       (All-from_get_or (R x) xs x (λ i h. p zero (suc i) x (omega arith) (omega arith)), from_places xs (λ i j d h k. p (suc i) (suc j) d (omega arith) (omega arith)))
 
-  pub to_places : (xs : List A) → Pairwise xs → ByPlaces xs
+  pub to_places : (xs : List A) → Pairwise xs → AllPairs R xs
   to_places [] p i j d h k = absurd (omega arith)
   to_places (x ∷ xs) p zero zero d h k = absurd (omega arith)
   to_places (x ∷ xs) p zero (suc j) d h k = All-get_or (R x) xs j d (omega arith) p.0

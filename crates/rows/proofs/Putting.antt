@@ -4,10 +4,13 @@ use Rattle.std.specs.List.{ContainsAt, AllByRecursion}
 use Rattle.std.proofs.ByRecursion.{All-weaker, has_append_left, has_append_right, has_append_cases}
 use Rattle.std.proofs.lemmas.List.{same_from_push, length-take-le, take_at, drop_at, drop-drop}
 use Rattle.rulings.specs.Order.{StrictTotal}
-use Rattle.rows.specs.Rows.{InOrder, PutIn, Inserted}
-use Rattle.rows.proofs.Pairwise.{ByPlaces, Pairwise, from_places, to_places, pairwise_put}
+use Rattle.rows.specs.Rows.{InOrder, StrictlyInOrder, PutIn, Inserted}
+use Rattle.rows.proofs.Pairwise.{Pairwise, from_places, to_places, pairwise_put}
 
 module _ {A : Type 0} where
+  pub has_none : (x : A) → ContainsAt [] x → ⊥
+  has_none x (k, h, is) = omega arith
+
   pub has_first : (xs : List A) (x : A) → ContainsAt (x ∷ xs) x
   has_first xs x = (0, omega arith, λ d. refl)
 
@@ -101,7 +104,7 @@ module _ {A : Type 0} (before : A → A → Type 0) (order : StrictTotal before)
         (put_pairwise (λ x y. before y x → ⊥) p (none_ahead p) (All-weaker (before row) (λ x. before x row → ⊥) (asymmetric row) put.back put.ahead_of))
 
     -- rows that strictly increase still do, if the row is not among them
-    pub put_strictly : ByPlaces before xs → (ContainsAt xs row → ⊥) → ByPlaces before ys
+    pub put_strictly : StrictlyInOrder before xs → (ContainsAt xs row → ⊥) → StrictlyInOrder before ys
     put_strictly strict absent =
         let p = from_places before xs strict in
         to_places before ys

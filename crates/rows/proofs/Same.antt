@@ -1,14 +1,11 @@
 -- Lists with the same rows, strictly in order, are equal.
-use Rattle.std.proofs.Common.{◌≡◌, ◌⊎◌, List, [], ◌∷◌, sym, refl, ◌∙◌, subst, inl, inr, arith}
+use Rattle.std.proofs.Common.{◌≡◌, ◌⊎◌, List, [], ◌∷◌, sym, refl, ◌∙◌, subst, inl, inr}
 use Rattle.std.specs.List.{ContainsAt, AllByRecursion}
 use Rattle.std.proofs.ByRecursion.{all-has}
 use Rattle.rulings.specs.Order.{StrictTotal}
 use Rattle.rows.specs.Rows.{SameRowsSameList}
 use Rattle.rows.proofs.Pairwise.{Pairwise, from_places}
-use Rattle.rows.proofs.Putting.{has_first, has_later, has_cases}
-
-has_none : {A : Type 0} {B : Type 0} (x : A) → ContainsAt [] x → B
-has_none x (k, l, at) = absurd (omega arith)
+use Rattle.rows.proofs.Putting.{has_none, has_first, has_later, has_cases}
 
 module _ {A : Type 0} (before : A → A → Type 0) (strict : StrictTotal before) where
   -- neither comes before the other
@@ -41,8 +38,8 @@ module _ {A : Type 0} (before : A → A → Type 0) (strict : StrictTotal before
 
   same : (xs ys : List A) → Pairwise before xs → Pairwise before ys → ((r : A) → ContainsAt xs r → ContainsAt ys r) → ((r : A) → ContainsAt ys r → ContainsAt xs r) → xs ≡ ys
   same [] [] p q f g = refl
-  same [] (y ∷ ys) p q f g = has_none y (g y (has_first ys y))
-  same (x ∷ xs) [] p q f g = has_none x (f x (has_first xs x))
+  same [] (y ∷ ys) p q f g = absurd (has_none y (g y (has_first ys y)))
+  same (x ∷ xs) [] p q f g = absurd (has_none x (f x (has_first xs x)))
   same (x ∷ xs) (y ∷ ys) p q f g =
       let e : x ≡ y = same_first x y xs ys p.0 q.0 (f x (has_first xs x)) (g y (has_first ys y)) in
       let t : xs ≡ ys = same xs ys p.1 q.1 (rest x y xs ys e p.0 f) (rest y x ys xs (sym e) q.0 g) in

@@ -1,15 +1,15 @@
 -- Rows in order, and a row put among them.
-use Rattle.std.specs.Prelude.{◌≡◌, ℕ, ◌+◌, ◌<◌, ◌≤◌, Option, Some, None, ◌↔◌, List, [], ◌∷◌, ◌++◌, length, take, drop, slice_index_or}
-use Rattle.std.specs.List.{ContainsAt, AllByRecursion}
+use Rattle.std.specs.Prelude.{◌≡◌, ℕ, ◌+◌, ◌<◌, ◌≤◌, ◌-◌, Option, Some, None, ◌↔◌, List, [], ◌∷◌, ◌++◌, length, take, drop, slice_index_or}
+use Rattle.std.specs.List.{ContainsAt, AllByRecursion, AllPairs}
 
 module _ {A : Type 0} (before : A → A → Type 0) where
   -- no row stands behind one that it comes before
   abbrev pub InOrder : List A → Type 0
-  InOrder xs = (i j : ℕ) (d : A) → i < j → j < length xs → before (slice_index_or xs j d) (slice_index_or xs i d) → ⊥
+  InOrder xs = AllPairs (λ x y. before y x → ⊥) xs
 
   -- each row comes before all later ones
   abbrev pub StrictlyInOrder : List A → Type 0
-  StrictlyInOrder xs = (i j : ℕ) (d : A) → i < j → j < length xs → before (slice_index_or xs i d) (slice_index_or xs j d)
+  StrictlyInOrder xs = AllPairs before xs
 
   -- the same rows, strictly in order, are the same list
   abbrev pub SameRowsSameList : Type 0
@@ -31,3 +31,9 @@ module _ {A : Type 0} (before : A → A → Type 0) where
   Inserted xs n row (Some m) zs =
       (n < length xs) × ((ys : List A) × PutIn row (take n xs) ys × (zs ≡ ys ++ drop (n + 1) xs) × (InOrder (take n xs) → InOrder ys)) × (m ≡ n + 1)
   Inserted xs n row None zs = (length xs ≤ n) × (zs ≡ xs)
+
+-- the row comes before the last n rows, and not before the one ahead of them; no public contract cites this
+pub record Behind {A : Type 0} (before : A → A → Type 0) (row : A) (xs : List A) (n : ℕ) : Type 0 where
+  pub few : n ≤ length xs
+  pub passed : (j : ℕ) (d : A) → length xs - n ≤ j → j < length xs → before row (slice_index_or xs j d)
+  pub stopped : (d : A) → n < length xs → before row (slice_index_or xs (length xs - n - 1) d) → ⊥

@@ -1,20 +1,20 @@
 // Rows kept in their order, in slices that the caller lends.
 #![tactic(auto)]
 
-ghost use Rattle.std.specs.Prelude.{◌≡◌};
-ghost use Rattle.std.specs.List.{suffix_len};
-ghost use Rattle.std.specs.Ordering.{is_lt};
-ghost use Rattle.rulings.specs.Order.{Precedes, StrictTotal, IsOrderOf};
-ghost use Rattle.rows.specs.Rows.{Inserted, SameRowsSameList};
-ghost use Rattle.rulings.proofs.RowOrder.{row_order, by_bytes};
+ghost use Rattle.std.specs.Prelude.{◌≡◌, true, ◌↔◌};
+ghost use Rattle.rulings.specs.Order.{Precedes, StrictTotal};
+ghost use Rattle.rows.specs.Rows.{Inserted, Behind, SameRowsSameList};
+ghost use Rattle.rulings.proofs.RowOrder.{row_order};
 
 use rulings::Ruling;
 
-// A row, with its order: that of std, as a relation.
-pub trait Row: Ord + Copy {
+// A row, with its order.
+pub trait Row: Copy {
     ghost before: { Self → Self → Type 0 };
 
-    ghost ordered: { IsOrderOf Self.cmp before };
+    // Whether the row comes before the other.
+    fn comes_before(self, other: Self) -> bool
+        ensures { (result ≡ true) ↔ before self other };
 
     ghost strict: { StrictTotal before };
 }
@@ -23,9 +23,11 @@ pub trait Row: Ord + Copy {
 impl Row for Ruling {
     ghost before = { Precedes };
 
-    ghost ordered = { by_bytes };
-
     ghost strict = { row_order };
+
+    fn comes_before(self, other: Ruling) -> bool {
+        self.precedes(other)
+    }
 }
 
 // Puts the row into the first `count` rows, which it keeps in order; later rows stay, but for the one whose place is taken.
@@ -44,9 +46,12 @@ pub fn insert_in_order<R: Row>(rows: &mut [R], count: usize, row: R) -> Option<u
 
 // How many rows at the end the row comes before.
 fn rows_behind<R: Row>(rows: &[R], row: R) -> usize
-    ensures { result ≡ suffix_len (λ later. is_lt (R.Ord.cmp row later)) rows.now }
+    ensures { Behind R.Row.before row rows.now result }
 {
-    rows.iter().rev().take_while(|later| row < **later).count()
+    rows.iter()
+        .rev()
+        .take_while(|later| row.comes_before(**later))
+        .count()
 }
 
 // A theorem: the same rows, strictly in order, are the same list. So a listing is settled by what it lists.

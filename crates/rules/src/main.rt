@@ -2,9 +2,11 @@
 #![tactic(auto)]
 
 use books::RuleBook;
-use service::serve_standard_streams;
+use marker::Marker;
+use service::serve_through;
 use std::io;
 
 fn main(rt: HostRuntime) -> io::Result<()> {
-    serve_standard_streams(&rt, RuleBook::new())
+    let mut marker = Marker::new(RuleBook::new());
+    serve_through(&mut marker, rt.stdin(), &mut rt.stdout(), rt.alloc())
 }

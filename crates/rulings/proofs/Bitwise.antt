@@ -1,16 +1,13 @@
 -- Operations on bytes that work on each digit apart, lifted to rulings: what is done byte by byte is done point by point.
-use Rattle.std.proofs.Common.{◌≡◌, ◌≢◌, ◌↔◌, min, subst, ℕ, ◌+◌, ◌-◌, ◌*◌, ◌/◌, ◌%◌, ◌<◌, ◌≤◌, Bool, true, false, not, ◌&&◌, ◌||◌, length, get_or, sym, refl, ap, ◌∙◌, ap₂, inl, inr, lt_of_le_of_lt, mod-lt, arith}
+use Rattle.std.proofs.Common.{◌≡◌, ℕ, ◌+◌, ◌-◌, ◌*◌, ◌/◌, ◌%◌, ◌<◌, ◌≤◌, Bool, not, ◌&&◌, ◌||◌, sym, refl, ap, ◌∙◌, ap₂, inl, inr, lt_of_le_of_lt, mod-lt, arith}
 use mathlib.Core.Bool.{xor}
 use lib.Bits.{bit_and, bit_or, bit_xor, and_le_l}
 use Rattle.std.proofs.lemmas.Nat.{or_lt, xor_lt}
-use Rattle.std.specs.Bool.{MatchBool}
-use Rattle.std.specs.List.{zip, AllWithin, HoldsAt}
-use Rattle.std.proofs.lemmas.Slice.Zip.{length-zip, get_or-zip}
-use Rattle.std.proofs.lemmas.Bool.{cases_lt, false≢true}
+use Rattle.std.proofs.lemmas.Bool.{cases_lt}
 use Rattle.rulings.specs.Rulings.{digit, byte, has}
 use Rattle.rulings.specs.declared.ruling.Ruling.{Ruling}
 use Rattle.rulings.proofs.Bytes.{byte_past, has_at}
-use Rattle.rulings.proofs.Digits.{digit_zero, digit_and, digit_or, digit_xor, digit_complement, no_digits}
+use Rattle.rulings.proofs.Digits.{digit_and, digit_or, digit_xor, digit_complement}
 
 -- op does to each of the eight digits of two bytes what f does
 pub record Bitwise (op : ℕ → ℕ → ℕ) (f : Bool → Bool → Bool) : Type 0 where
@@ -39,7 +36,7 @@ pub lacking_bitwise : Bitwise lacking (λ x y. x && not y)
 lacking_bitwise = record {
   zeros = refl;
   below = λ m n h _. lt_of_le_of_lt (and_le_l m (255 - n)) h;
-  digits = λ m n k _ h l. digit_and m (255 - n) k ∙ ap (λ (x : Bool). digit m k && x) (digit_complement 8 n k h l);
+  digits = λ m n k _ h l. digit_and m (255 - n) k ∙ ap (λ (x : Bool). digit m k && x) (digit_complement n k h l);
 }
 
 module _ (op : ℕ → ℕ → ℕ) (f : Bool → Bool → Bool) (b : Bitwise op f) (r s : Ruling) where
@@ -57,46 +54,6 @@ module _ (op : ℕ → ℕ → ℕ) (f : Bool → Bool → Bool) (b : Bitwise op
   point_combined : (a : ℕ) → digit (op (byte r (a / 8)) (byte s (a / 8))) (a % 8) ≡ f (has r a) (has s a)
   unfolding has
   point_combined a = b.digits (byte r (a / 8)) (byte s (a / 8)) (a % 8) (r.each (a / 8)) (s.each (a / 8)) (mod-lt a {m = 8} (omega arith))
-
--- a test of sixteen bytes and an implication about points: each gives the other
-module _ (op : ℕ → ℕ → ℕ) (g : Bool → Bool) (b : Bitwise op (λ x y. x && g y)) (r s : Ruling) where
-  point_test : ((i : ℕ) → i < 16 → op (byte r i) (byte s i) ≡ 0) → (a : ℕ) → has r a ≡ true → g (has s a) ≡ false
-  point_test h a e =
-      ap (λ (x : Bool). x && g (has s a)) (sym e) ∙ sym (point_combined op (λ x y. x && g y) b r s a)
-      ∙ ap (λ (n : ℕ). digit n (a % 8)) (all (a / 8)) ∙ digit_zero (a % 8)
-    where
-      all : (i : ℕ) → op (byte r i) (byte s i) ≡ 0
-      all i = elim (cases_lt i 16) [ inl l ↦ h i l | inr l ↦ combined_past op (λ x y. x && g y) b r s i l ]
-
-  byte_test : ((a : ℕ) → has r a ≡ true → g (has s a) ≡ false) → (i : ℕ) → op (byte r i) (byte s i) ≡ 0
-  byte_test h i =
-      no_digits 8 (op (byte r i) (byte s i)) (combined_below op (λ x y. x && g y) b r s i)
-      (λ k l. digit_combined op (λ x y. x && g y) b r s i k l ∙ not_both (has r (i * 8 + k)) (g (has s (i * 8 + k))) (h (i * 8 + k)))
-    where
-      not_both : (x y : Bool) → (x ≡ true → y ≡ false) → x && y ≡ false
-      not_both true y n = n refl
-      not_both false y n = refl
-
--- the same of the sixteen pairs of bytes, tested one after the other
-module _ (op : ℕ → ℕ → ℕ) (g : Bool → Bool) (b : Bitwise op (λ x y. x && g y)) (r s : Ruling) where
-  sixteen : length (zip r.bytes s.bytes) ≡ 16
-  sixteen = length-zip r.bytes s.bytes ∙ ap₂ min r.long s.long
-
-  pair_at : (i : ℕ) → i < 16 → get_or (zip r.bytes s.bytes) i (0, 0) ≡ (byte r i, byte s i)
-  pair_at i h = get_or-zip r.bytes s.bytes i (0, 0) (omega (arith, r.long)) (omega (arith, s.long))
-
-  pub pairs_tested : (t : Bool) →
-      MatchBool t (AllWithin (λ (p : ℕ × ℕ). op p.0 p.1 ≡ 0) (zip r.bytes s.bytes) 0 (length (zip r.bytes s.bytes)))
-      ((i : ℕ) × (i < length (zip r.bytes s.bytes)) × HoldsAt (λ (p : ℕ × ℕ). op p.0 p.1 ≢ 0) (zip r.bytes s.bytes) i) →
-      (t ≡ true) ↔ ((a : ℕ) → has r a ≡ true → g (has s a) ≡ false)
-  pairs_tested true all = (λ _. point_test op g b r s zeros, λ _. refl)
-    where
-      zeros : (i : ℕ) → i < 16 → op (byte r i) (byte s i) ≡ 0
-      zeros i h = subst (λ (p : ℕ × ℕ). op p.0 p.1 ≡ 0) (pair_at i h) (all i (0, 0) (omega arith) (omega (arith, sixteen)))
-  pairs_tested false found = (λ e. absurd (false≢true e), λ h. absurd (other (byte_test op g b r s h found.0)))
-    where
-      other : op (byte r found.0) (byte s found.0) ≢ 0
-      other = subst (λ (p : ℕ × ℕ). op p.0 p.1 ≢ 0) (pair_at found.0 (omega (arith, sixteen, found.1))) (found.2 (0, 0))
 
 -- a ruling whose bytes are combined place by place has its points combined
 module _ (op : ℕ → ℕ → ℕ) (f : Bool → Bool → Bool) (b : Bitwise op f) (r s t : Ruling)

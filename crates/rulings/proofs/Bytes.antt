@@ -1,5 +1,5 @@
 -- A ruling's bytes and its points: each gives the other, and either gives the ruling.
-use Rattle.std.proofs.Common.{◌≡◌, ℕ, ◌+◌, ◌*◌, ◌/◌, ◌%◌, ◌^◌, ◌<◌, ◌≤◌, Bool, false, ◌&&◌, ◌||◌, eqb, ltb, ◌≢◌, List, length, get_or, set, sym, ap, ◌∙◌, ap₂, inl, inr, mod-lt, arith}
+use Rattle.std.proofs.Common.{◌≡◌, ℕ, ◌+◌, ◌*◌, ◌/◌, ◌%◌, ◌^◌, ◌<◌, ◌≤◌, Bool, true, false, ◌&&◌, ◌||◌, eqb, ltb, ◌≢◌, List, length, get_or, set, sym, ap, ◌∙◌, ap₂, inl, inr, mod-lt, arith}
 use mathlib.Core.HLevel.{is_prop→PathP, Π_prop}
 use native.Mathlib.Bridge.{le_prop}
 use native.Mathlib.Nat.{ℕ_set}
@@ -7,7 +7,7 @@ use lib.Bits.{bit_and, bit_or, and_mask}
 use Rattle.std.proofs.Math.Bool.{or-false}
 use Rattle.std.proofs.lemmas.Nat.{div-mul-add, mod-mul-add, one_shl}
 use Rattle.std.proofs.lemmas.List.{get_or_past, ext_get_or, get_or-set_same, get_or-set_other}
-use Rattle.std.proofs.lemmas.Bool.{cases_eq, ne_eqb}
+use Rattle.std.proofs.lemmas.Bool.{cases_eq, cases_lt, both_ways, ne_eqb}
 use Rattle.std.proofs.lemmas.Bool.Decides.{nat_tests}
 use Rattle.rulings.specs.Rulings.{digit, byte, has, PointsBelow128, SamePointsSameRuling}
 use Rattle.rulings.specs.declared.ruling.Ruling.{Ruling}
@@ -19,6 +19,14 @@ byte_past r i h = get_or_past r.bytes i 0 (omega (arith, r.long))
 pub has_past : PointsBelow128
 unfolding has
 has_past r a h = ap (λ (n : ℕ). digit n (a % 8)) (byte_past r (a / 8) (omega arith)) ∙ digit_zero (a % 8)
+
+-- a point of a ruling is below 128
+pub has_below : (r : Ruling) (a : ℕ) → has r a ≡ true → a < 128
+has_below r a h =
+    elim (cases_lt a 128) [
+      | inl l ↦ l
+      | inr l ↦ absurd (both_ways _ (has_past r a l) h)
+    ]
 
 pub has_at : (r : Ruling) (i k : ℕ) → k < 8 → has r (i * 8 + k) ≡ digit (byte r i) k
 unfolding has

@@ -1,5 +1,5 @@
 -- The strict order of a lawful comparison is strict and total.
-use Rattle.std.proofs.Common.{ℕ, ◌<◌, arith, sym, ◌≡◌, ◌⊎◌, ◌↔◌, true, refl, ap, ◌∙◌, inl, inr}
+use Rattle.std.proofs.Common.{ℕ, ◌<◌, arith, sym, ◌≡◌, ◌⊎◌, ◌↔◌, true, refl, ap, subst, ◌∙◌, inl, inr}
 use Rattle.std.specs.Cmp.{IsTotalOrder, tied_itself, ranks, nat_cmp_total}
 use Rattle.std.specs.Ordering.{ordering_reverse, ordering_then, is_lt, nat_cmp, MatchOrdering}
 use Rattle.std.specs.declared.cmp.Ordering.{Ordering}
@@ -33,25 +33,25 @@ lt_is_less {cmp = cmp} order a b = (λ e. (order.less a b).0 (less_if_lt (cmp a 
     less_if_lt Equal e = cc
     less_if_lt Greater e = cc
 
+-- a comparison that says in each case what holds is the comparison of that order
+module _ {A : Type 0} (cmp : A → A → Ordering) (before : A → A → Type 0) (not_both : (a b : A) → before a b → before b a → ⊥)
+    (says : (a b : A) → MatchOrdering (cmp a b) (before a b) (a ≡ b) (before b a)) where
+  pub order_from : IsOrderOf cmp before
+  order_from = record { less = λ a b. by_case a b (cmp a b) (says a b); same = λ a b. by_tie a b (cmp a b) (says a b) }
+    where
+      by_case : (a b : A) (o : Ordering) → MatchOrdering o (before a b) (a ≡ b) (before b a) → (o ≡ Less) ↔ before a b
+      by_case a b Less h = (λ _. h, λ _. refl)
+      by_case a b Equal h = (λ e. cc, λ l. let m = subst (λ (c : A). before a c) (sym h) l in absurd (not_both a a m m))
+      by_case a b Greater h = (λ e. cc, λ l. absurd (not_both a b l h))
+
+      by_tie : (a b : A) (o : Ordering) → MatchOrdering o (before a b) (a ≡ b) (before b a) → o ≡ Equal → a ≡ b
+      by_tie a b Less h e = cc
+      by_tie a b Equal h e = h
+      by_tie a b Greater h e = cc
+
 -- comparing numbers
 pub nat_order : IsOrderOf nat_cmp (λ (x y : ℕ). x < y)
-nat_order = record { less = less; same = same }
-  where
-    by_rank : (x y : ℕ) (o : Ordering) → MatchOrdering o (x < y) (x ≡ y) (y < x) → (o ≡ Less) ↔ (x < y)
-    by_rank x y Less h = (λ _. h, λ _. refl)
-    by_rank x y Equal h = (λ e. cc, λ l. absurd (omega arith))
-    by_rank x y Greater h = (λ e. cc, λ l. absurd (omega arith))
-
-    less : (x y : ℕ) → (nat_cmp x y ≡ Less) ↔ (x < y)
-    less x y = by_rank x y (nat_cmp x y) (ranks x y)
-
-    by_tie : (x y : ℕ) (o : Ordering) → MatchOrdering o (x < y) (x ≡ y) (y < x) → o ≡ Equal → x ≡ y
-    by_tie x y Less h e = cc
-    by_tie x y Equal h e = h
-    by_tie x y Greater h e = cc
-
-    same : (x y : ℕ) → nat_cmp x y ≡ Equal → x ≡ y
-    same x y = by_tie x y (nat_cmp x y) (ranks x y)
+nat_order = order_from nat_cmp (λ x y. x < y) (λ x y h l. omega arith) ranks
 
 pub nat_ties : (x y : ℕ) → x ≡ y → nat_cmp x y ≡ Equal
 nat_ties x y e = ap (nat_cmp x) (sym e) ∙ tied_itself nat_cmp_total x

@@ -1,5 +1,5 @@
 -- The row order: what comparing the bytes in turn says, and that the order is strict and total.
-use Rattle.std.proofs.Common.{◌≡◌, ℕ, zero, suc, ◌<◌, ◌↔◌, List, [], ◌∷◌, length, get_or, refl, sym, subst, ap₂, ◌∙◌, inl, inr, arith}
+use Rattle.std.proofs.Common.{◌≡◌, ℕ, zero, suc, ◌<◌, List, [], ◌∷◌, length, get_or, refl, sym, ap₂, ◌∙◌, inl, inr, arith}
 use Rattle.std.specs.Cmp.{ranks}
 use Rattle.std.specs.Cmp.Lexicographic.{slice_cmp}
 use Rattle.std.specs.declared.cmp.Ordering.{Ordering}
@@ -10,7 +10,7 @@ use Rattle.std.proofs.lemmas.Cmp.{on_total, nat_list_cmp_total}
 use Rattle.rulings.specs.Order.{Precedes, StrictTotal, IsOrderOf}
 use Rattle.rulings.specs.declared.ruling.Ruling.{Ruling}
 use Rattle.rulings.proofs.Bytes.{same_list}
-use Rattle.rulings.proofs.Orders.{strict_total}
+use Rattle.rulings.proofs.Orders.{strict_total, order_from}
 
 -- at the first place where they differ, the number in the one list is the smaller
 record Smaller (xs ys : List ℕ) : Type 0 where
@@ -53,23 +53,17 @@ asymmetric r s p q =
       | inr (inr h) ↦ omega (arith, q.smaller, p.same_before q.place h)
     ]
 
-row_less : (r s : Ruling) (o : Ordering) → Compared o r.bytes s.bytes → (o ≡ Less) ↔ Precedes r s
-row_less r s Less k = (λ _. record { place = k.place; same_before = k.same_before; smaller = k.smaller }, λ _. refl)
-row_less r s Equal k = (λ e. cc, λ p. absurd (asymmetric r s p (subst (λ t. Precedes t r) (same_list r s k) (subst (λ t. Precedes r t) (sym (same_list r s k)) p))))
-row_less r s Greater k =
-    (λ e. cc, λ p. absurd (asymmetric r s p (record { place = k.place; same_before = k.same_before; smaller = k.smaller })))
+precedes_from : (r s : Ruling) → Smaller r.bytes s.bytes → Precedes r s
+precedes_from r s k = record { place = k.place; same_before = k.same_before; smaller = k.smaller }
 
-row_same : (r s : Ruling) (o : Ordering) → Compared o r.bytes s.bytes → o ≡ Equal → r ≡ s
-row_same r s Less k e = cc
-row_same r s Equal k e = same_list r s k
-row_same r s Greater k e = cc
+row_says : (r s : Ruling) (o : Ordering) → Compared o r.bytes s.bytes → MatchOrdering o (Precedes r s) (r ≡ s) (Precedes s r)
+row_says r s Less k = precedes_from r s k
+row_says r s Equal k = same_list r s k
+row_says r s Greater k = precedes_from s r k
 
 -- the row order is that of comparing the bytes
 pub by_bytes : IsOrderOf (on (λ (r : Ruling). r.bytes) (slice_cmp nat_cmp)) Precedes
-by_bytes = record {
-  less = λ r s. row_less r s _ (compared r.bytes s.bytes (r.long ∙ sym s.long));
-  same = λ r s. row_same r s _ (compared r.bytes s.bytes (r.long ∙ sym s.long));
-}
+by_bytes = order_from _ _ asymmetric (λ r s. row_says r s _ (compared r.bytes s.bytes (r.long ∙ sym s.long)))
 
 pub row_order : StrictTotal Precedes
 row_order = strict_total (on_total (λ (r : Ruling). r.bytes) nat_list_cmp_total) by_bytes

@@ -21,11 +21,6 @@ has r a = digit (byte r (a / 8)) (a % 8)
 abbrev pub differing : Ruling → Ruling → Points
 differing r s a = xor (has r a) (has s a)
 
--- the ruling has the points below a size, and below 128, of which a test answered true
-pub record Picked (answers : ℕ → Bool → Type 0) (size : ℕ) (r : Ruling) : Type 0 where
-  pub tested : (a : ℕ) → a < size → a < 128 → answers a (has r a)
-  pub outside : (a : ℕ) → size ≤ a → has r a ≡ false
-
 -- a point of 128 or above is in no ruling
 abbrev pub PointsBelow128 : Type 0
 PointsBelow128 = (r : Ruling) (a : ℕ) → 128 ≤ a → has r a ≡ false

@@ -5,3 +5,4 @@ mod ruling;
 
 pub use ruling::Ruling;
 pub use ruling::laws::{row_order_is_total, rulings_are_their_points};
+pub use ruling::points::Points;

@@ -6,6 +6,7 @@ pub mod laws;
 mod lowest;
 mod members;
 mod order;
+pub mod points;
 pub mod words;
 
 // A ruling (an interpretation): a set of points.

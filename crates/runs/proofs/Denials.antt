@@ -1,25 +1,23 @@
 -- What is denied is denied for one reason only, and what is answered is not denied.
-use Rattle.std.proofs.Common.{◌≡◌, ℕ, ◌<◌, ◌≤◌, ltb, List, length, Some, sym, ap, ◌∙◌, subst, inl, inr, ⊎_elim, arith, ltb-true}
+use Rattle.std.proofs.Common.{◌≡◌, ℕ, ◌<◌, ◌≤◌, List, length, sym, ap, ◌∙◌, inl, inr, ⊎_elim, arith}
 use Rattle.std.proofs.lemmas.Bool.{cases_order}
-use Rattle.rulings.specs.Points.{Lowest}
 use Rattle.rulings.specs.Rulings.{has}
 use Rattle.rulings.specs.declared.ruling.Ruling.{Ruling}
 use Rattle.semantics.specs.Meaning.{Meaning}
 use Rattle.semantics.specs.Chapters.{Fit}
 use Rattle.semantics.specs.Listing.{AllInRowOrder, Effort, AllPartsStable}
-use Rattle.semantics.proofs.Tests.{false_is_not_true, and_both}
-use Rattle.semantics.proofs.Ways.{effort_unique}
+use Rattle.semantics.proofs.Tests.{false_is_not_true}
+use Rattle.semantics.proofs.Ways.{effort_unique, one_listing}
 use Rattle.answers.specs.declared.fault.Refusal.TheVariants.{StrayMark}
 use Rattle.answers.specs.declared.fault.Layer.TheVariants as layer
 use Rattle.answers.specs.declared.fault.Fault.{Fault}
 use Rattle.answers.specs.Faults.{fault_of}
 use Rattle.books.specs.Faults.{one_lowest}
-use Rattle.books.specs.Promise.{stray}
-use Rattle.chapters.specs.Fitting.{upward, FirstUpward, UpwardDenied}
+use Rattle.answers.specs.Checks.{stray}
+use Rattle.chapters.proofs.Upward.{upward_once, fitting}
 use Rattle.marker.specs.Judging.{NoStray, StrayDenied}
 use Rattle.marker.specs.Listing.{NoneWide, WideDenied, NotTried, TriedInVain}
 use Rattle.runs.specs.Law.{ByChapterDenied, ListingDenied}
-use Rattle.runs.proofs.Listings.{same_listing}
 
 pub stray_once : (m : Meaning) (y : Ruling) (f f' : Fault) → StrayDenied m y f → StrayDenied m y f' → f ≡ f'
 stray_once m y f f' (s, e, low) (s', e', low') =
@@ -27,32 +25,6 @@ stray_once m y f f' (s, e, low) (s', e', low') =
 
 pub not_stray : {A : Type 0} (m : Meaning) (y : Ruling) (f : Fault) → NoStray m y → StrayDenied m y f → A
 not_stray m y f none (s, e, low) = false_is_not_true (sym (none s) ∙ low.0)
-
--- there is one first upward reading, and none where the chapters fit
-first_once : (m : Meaning) (ch : ℕ → ℕ) (a b c d : ℕ) → FirstUpward m ch (Some (a, b)) → FirstUpward m ch (Some (c, d)) → (a ≡ c) × (b ≡ d)
-first_once m ch a b c d (u, read, reader) (u', read', reader') =
-    ⊎_elim
-    (λ (e : a ≡ c). (
-      e,
-      one_lowest (upward m ch a) b d (u, read)
-          (subst (λ (n : ℕ). Lowest (upward m ch n) (Some d)) (sym e) (u', read')),
-    ))
-    (⊎_elim
-    (λ (l : a < c). false_is_not_true (sym (reader' a b l) ∙ u))
-    (λ (l : c < a). false_is_not_true (sym (reader c d l) ∙ u')))
-    (cases_order a c)
-
-pub upward_once : (m : Meaning) (ch : ℕ → ℕ) (f f' : Fault) → UpwardDenied m ch f → UpwardDenied m ch f' → f ≡ f'
-upward_once m ch f f' (a, b, e, first) (c, d, e', first') =
-    let same = first_once m ch a b c d first first' in
-    let p = same.0 in
-    let q = same.1 in
-    cc
-
-pub fitting : {A : Type 0} (m : Meaning) (ch : ℕ → ℕ) (f : Fault) → Fit m ch → UpwardDenied m ch f → A
-fitting m ch f fit (a, b, e, (u, _, _)) =
-    let both = and_both (m.reads a b) (ltb (ch a) (ch b)) u in
-    absurd (omega (arith, fit a b both.0, ltb-true (ch a) (ch b) both.1))
 
 -- there is one lowest chapter that is too wide
 wide_once : (m : Meaning) (ch : ℕ → ℕ) (f f' : Fault) → WideDenied m ch f → WideDenied m ch f' → f ≡ f'
@@ -109,4 +81,4 @@ not_listing m ch n f rows effort fit none counted within room all (inl d) = trie
 not_listing m ch n f rows effort fit none counted within room all (inr (_, _, (e, counted', inl w))) =
     absurd (omega (arith, effort_unique m ch effort e counted counted', w.1))
 not_listing m ch n f rows effort fit none counted within room all (inr (_, _, (e, counted', inr (_, _, (more, all', long))))) =
-    absurd (omega (arith, ap length (same_listing (AllPartsStable m ch) (AllPartsStable m ch) rows more (λ r. (λ s. s, λ s. s)) all all')))
+    absurd (omega (arith, ap length (one_listing all all')))

@@ -1,21 +1,18 @@
 -- Listings: settled by what they list, and a listing by chapters is one of the book read whole.
 use Rattle.std.proofs.Common.{◌≡◌, ℕ, ◌↔◌, List, subst}
 use Rattle.rulings.specs.Rulings.{has}
-use Rattle.rulings.specs.Order.{Precedes}
 use Rattle.rulings.specs.declared.ruling.Ruling.{Ruling}
-use Rattle.rulings.proofs.RowOrder.{row_order}
-use Rattle.rows.proofs.Same.{same_rows}
 use Rattle.semantics.specs.Meaning.{Meaning, Lawful}
 use Rattle.semantics.specs.Chapters.{Fit, Sixteen}
 use Rattle.semantics.specs.Closure.{Stable}
 use Rattle.semantics.specs.Listing.{AllInRowOrder, AllPartsStable}
 use Rattle.semantics.proofs.Splitting.{stable_splits}
+use Rattle.semantics.proofs.Ways.{one_listing}
 
 -- two listings of the same rulings are equal
 pub same_listing : (Q Q' : Ruling → Type 0) (xs ys : List Ruling) → ((r : Ruling) → Q r ↔ Q' r) → AllInRowOrder Q xs → AllInRowOrder Q' ys → xs ≡ ys
 same_listing Q Q' xs ys same p q =
-    same_rows Precedes row_order xs ys p.in_order q.in_order
-    (λ r. (λ h. q.each r ((same r).0 (p.only r h)), λ h. p.each r ((same r).1 (q.only r h))))
+    one_listing p (record { only = λ r h. (same r).1 (q.only r h); each = λ r h. q.each r ((same r).0 h); in_order = q.in_order })
 
 -- two equal listings list the same rulings
 pub same_listed : (Q Q' : Ruling → Type 0) (xs ys : List Ruling) → xs ≡ ys → AllInRowOrder Q xs → AllInRowOrder Q' ys → (r : Ruling) → Q r ↔ Q' r

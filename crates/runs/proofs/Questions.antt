@@ -18,14 +18,15 @@ use Rattle.answers.specs.declared.verdict.ChapterVerdict.{ChapterVerdict}
 use Rattle.chapters.specs.Fitting.{UpwardDenied}
 use Rattle.marker.specs.Judging.{NoStray, StrayDenied, Judged, JudgedByChapter}
 use Rattle.marker.specs.Listing.{NoneWide, TriedInVain, Listed}
-use Rattle.marker.proofs.Denials.{denied_in_parts}
 use Rattle.marker.specs.Reading.{ReadInto}
+use Rattle.marker.specs.State.{placing}
 use Rattle.marker.proofs.Verdicts.{stable_verdict, by_chapter_agrees}
 use Rattle.runs.specs.Law.{ByChapterDenied, ListingDenied, NotDenied}
-use Rattle.runs.specs.Step.{Kind, to_judge, to_judge_by_chapter, to_read, to_list, to_change, to_keep, means, places}
+use Rattle.runs.specs.Step.{Kind, to_judge, to_judge_by_chapter, to_read, to_list, to_change, to_keep, means}
 use Rattle.runs.specs.Told.{Told, verdict, chapter_verdict, reading, listing, denied, judgement_told, chapter_judgement_told, reading_told, listing_told}
 use Rattle.runs.proofs.CallKinds.{StepOf}
-use Rattle.runs.proofs.Denials.{stray_once, not_stray, upward_once, fitting, by_chapter_once, not_by_chapter, listing_once, not_listing}
+use Rattle.chapters.proofs.Upward.{upward_once, fitting}
+use Rattle.runs.proofs.Denials.{stray_once, not_stray, by_chapter_once, not_by_chapter, listing_once, not_listing}
 use Rattle.runs.proofs.Listings.{whole_listing}
 
 module _ {X : Type 0} (tell : X → Told) (Denying : Fault → Type 0) (Giving : X → Type 0) where
@@ -152,11 +153,8 @@ module _ (m : Meaning) (ch : ℕ → ℕ) (lawful : Lawful m) (few : Sixteen ch)
 
   listed : (n : ℕ) (r : Result Counts Fault) (found left : List Ruling) → length found ≡ n → t ≡ listing_told r left →
       Listed m ch found r left → Owes (to_list n) m ch t
-  listed n (Err f) found left long e d =
-      elim (denied_in_parts m ch found f left d) [
-        | inl d ↦ inl (f, e, inl d.0)
-        | inr d ↦ inl (f, e, inr (subst (λ (k : ℕ). TriedInVain m ch k f) long d.0))
-      ]
+  listed n (Err f) found left long e (inl d) = inl (f, e, inl d.0)
+  listed n (Err f) found left long e (inr d) = inl (f, e, inr (subst (λ (k : ℕ). TriedInVain m ch k f) long d.0))
   listed n (Ok l) found left long e (fit, none, effort, within, room, all, rest) =
       inr (
         (take l.rows left, l.effort),
@@ -173,10 +171,10 @@ module _ (m : Meaning) (ch : ℕ → ℕ) (lawful : Lawful m) (few : Sixteen ch)
       )
 
 -- a step of a question's kind gives what is owed
-pub owes : {B : Type 0} (f : B → Meaning) (q : Kind) (s : Marker B) (t : Told) (s' : Marker B) → Lawful (means f s) → StepOf f q s t s' → Owes q (means f s) (places s) t
-owes f (to_judge y) s t s' lawful (r, e, d, _) = judged (means f s) (places s) lawful s.sixteen t y r e d
-owes f (to_judge_by_chapter y) s t s' lawful (r, e, d, _) = judged_by_chapter (means f s) (places s) lawful s.sixteen t y r e d
-owes f to_read s t s' lawful (r, fs, fp, sure, possible, e, d, _) = was_read (means f s) (places s) lawful s.sixteen t r fs fp sure possible e d
-owes f (to_list n) s t s' lawful (r, found, left, long, e, d, _) = listed (means f s) (places s) lawful s.sixteen t n r found left long e d
+pub owes : {B : Type 0} (f : B → Meaning) (q : Kind) (s : Marker B) (t : Told) (s' : Marker B) → Lawful (means f s) → StepOf f q s t s' → Owes q (means f s) (placing s) t
+owes f (to_judge y) s t s' lawful (r, e, d, _) = judged (means f s) (placing s) lawful s.sixteen t y r e d
+owes f (to_judge_by_chapter y) s t s' lawful (r, e, d, _) = judged_by_chapter (means f s) (placing s) lawful s.sixteen t y r e d
+owes f to_read s t s' lawful (r, fs, fp, sure, possible, e, d, _) = was_read (means f s) (placing s) lawful s.sixteen t r fs fp sure possible e d
+owes f (to_list n) s t s' lawful (r, found, left, long, e, d, _) = listed (means f s) (placing s) lawful s.sixteen t n r found left long e d
 owes f to_change s t s' lawful d = tt
 owes f to_keep s t s' lawful d = tt

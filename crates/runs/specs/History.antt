@@ -3,7 +3,8 @@ use Rattle.std.specs.Prelude.{◌≡◌, ℕ, ◌+◌, ◌<◌, ◌≤◌, List,
 use Rattle.std.specs.List.{slice_get}
 use Rattle.semantics.specs.Meaning.{Meaning}
 use Rattle.marker.specs.declared.marker.Marker.{Marker}
-use Rattle.runs.specs.Step.{Language, Kind, to_change, means, places}
+use Rattle.marker.specs.State.{placing}
+use Rattle.runs.specs.Step.{Language, Kind, to_change, means}
 use Rattle.runs.specs.Told.{Told, done}
 
 -- A history: the marker at each moment, from the one handed over to the one left; each call, made at its moment,
@@ -27,7 +28,7 @@ pub record AskedAt {B : Type 0} {L : Language B} {s e : Marker B} {cs : List L.C
   pub of_kind : L.kind call ≡ q
   pub answered : slice_get ts i ≡ Some t
   pub meant : means L.meaning (h.moment i) ≡ m
-  pub placed : places (h.moment i) ≡ ch
+  pub placed : placing (h.moment i) ≡ ch
 
 -- at some moment
 abbrev pub Asked : {B : Type 0} {L : Language B} {s e : Marker B} {cs : List L.Calls} {ts : List Told} → History L s cs ts e → Kind → Meaning → (ℕ → ℕ) → Told → Type 0

@@ -15,18 +15,14 @@ use Rattle.marker.specs.Audit.{Audited}
 use Rattle.marker.specs.Judging.{Judged, JudgedByChapter}
 use Rattle.marker.specs.Listing.{Listed}
 use Rattle.marker.specs.Reading.{ReadInto}
-use Rattle.marker.specs.State.{book_of, chapters_of, ChaptersOpened, Placed}
-use Rattle.chapters.specs.Table.{chapter_of}
+use Rattle.marker.specs.State.{book_of, chapters_of, placing, ChaptersOpened, Placed}
 use Rattle.runs.specs.declared.call.Call.{Call}
 use Rattle.runs.specs.declared.call.Call.TheVariants as call
 use Rattle.runs.specs.Told.{Told, outcome_told, judgement_told, chapter_judgement_told, reading_told, listing_told, audit_told}
 
--- what the book of a marker means, and the chapter of each point; f gives the meaning of a book
+-- what the book of a marker means; f gives the meaning of a book
 abbrev pub means : {B : Type 0} → (B → Meaning) → Marker B → Meaning
 means f s = f (book_of s)
-
-abbrev pub places : {B : Type 0} → Marker B → ℕ → ℕ
-places s = chapter_of (chapters_of s)
 
 -- Changes of the book, by the relations of its own sort. Entering and withdrawing keep the chapters.
 abbrev pub Opens : {B : Type 0} → Sort B → ℕ → Marker B → Told → Marker B → Type 0
@@ -54,25 +50,25 @@ Judges f y s t s' = (r : Result Verdict Fault) × (t ≡ judgement_told r) × Ju
 
 abbrev pub JudgesByChapter : {B : Type 0} → (B → Meaning) → Ruling → Marker B → Told → Marker B → Type 0
 JudgesByChapter f y s t s' =
-    (r : Result ChapterVerdict Fault) × (t ≡ chapter_judgement_told r) × JudgedByChapter (means f s) (places s) y r × (s' ≡ s)
+    (r : Result ChapterVerdict Fault) × (t ≡ chapter_judgement_told r) × JudgedByChapter (means f s) (placing s) y r × (s' ≡ s)
 
 abbrev pub Reads : {B : Type 0} → (B → Meaning) → Marker B → Told → Marker B → Type 0
 Reads f s t s' =
     (r : Outcome) × (found_sure : Ruling) × (found_possible : Ruling) × (sure : Ruling) × (possible : Ruling)
     × (t ≡ reading_told r sure possible)
-    × ReadInto (means f s) (places s) r found_sure found_possible sure possible × (s' ≡ s)
+    × ReadInto (means f s) (placing s) r found_sure found_possible sure possible × (s' ≡ s)
 
 abbrev pub Lists : {B : Type 0} → (B → Meaning) → ℕ → Marker B → Told → Marker B → Type 0
 Lists f n s t s' =
     (r : Result Counts Fault) × (found : List Ruling) × (left : List Ruling)
     × (length found ≡ n) × (t ≡ listing_told r left)
-    × Listed (means f s) (places s) found r left × (s' ≡ s)
+    × Listed (means f s) (placing s) found r left × (s' ≡ s)
 
 abbrev pub Audits : {B : Type 0} → (B → Meaning) → ℕ → Marker B → Told → Marker B → Type 0
 Audits f n s t s' =
     (r : Result ℕ Fault) × (found : List UpwardReading) × (left : List UpwardReading)
     × (length found ≡ n) × (t ≡ audit_told r left)
-    × Audited (means f s) (places s) found r left × (s' ≡ s)
+    × Audited (means f s) (placing s) found r left × (s' ≡ s)
 
 -- What the law wants to know of a call: the question that it puts, whether it is a change of the book, or neither.
 pub data Kind : Type 0 where

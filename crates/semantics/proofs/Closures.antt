@@ -1,10 +1,11 @@
 -- Closures: that each set has one, that it has only one, and how closures compare.
 use Rattle.std.proofs.Common.{◌≡◌, ℕ, ◌<◌, Bool, true, not, ◌&&◌, ◌||◌, sym, ap, ◌∙◌}
+use Rattle.std.proofs.lemmas.Bool.{and_parts, and_from}
 use mathlib.Core.Path.{fun_ext}
 use Rattle.rulings.specs.Points.{Points, Part}
 use Rattle.semantics.specs.Meaning.{Meaning, Lawful}
 use Rattle.semantics.specs.Closure.{Closed, IsClosure}
-use Rattle.semantics.proofs.Tests.{and_both, and_of, implies_of, implies_use, both_ways}
+use Rattle.semantics.proofs.Tests.{implies_of, implies_use, both_ways}
 use Rattle.semantics.proofs.LeastFixpoint.{iterate, settles, within_prefixpoint}
 
 -- two sets that are part of one another are equal
@@ -66,7 +67,7 @@ derives_mono m l x x' y y' a h d = only_read x' y' ∙ with_fewer
     only_read z w = l.local z w (read z) (read w) a (λ b r. (sym (ap (λ (t : Bool). t && z b) r), sym (ap (λ (t : Bool). t && w b) r)))
 
     read_mono : (z w : Points) → ((b : ℕ) → m.reads a b ≡ true → z b ≡ true → w b ≡ true) → Part (read z) (read w)
-    read_mono z w p b q = let r = and_both _ _ q in and_of _ _ r.0 (p b r.0 r.1)
+    read_mono z w p b q = let r = and_parts _ _ q in and_from _ _ r.0 (p b r.0 r.1)
 
     with_more : m.derives (read x') (read y) a ≡ true
     with_more = l.more (read x) (read x') (read y) a (read_mono x x' (λ b r. (h b r).0)) (sym (only_read x y) ∙ d)
@@ -87,13 +88,13 @@ cut D z x a = x a && (not (D a) || z a)
 
 module _ (D z x : Points) (a : ℕ) where
   pub cut_of : x a ≡ true → (D a ≡ true → z a ≡ true) → cut D z x a ≡ true
-  cut_of h f = and_of _ _ h (implies_of _ _ f)
+  cut_of h f = and_from _ _ h (implies_of _ _ f)
 
   pub cut_part : cut D z x a ≡ true → x a ≡ true
-  cut_part h = (and_both _ _ h).0
+  cut_part h = (and_parts _ _ h).0
 
   pub cut_inside : D a ≡ true → cut D z x a ≡ true → z a ≡ true
-  cut_inside d h = implies_use _ _ (and_both _ _ h).1 d
+  cut_inside d h = implies_use _ _ (and_parts _ _ h).1 d
 
 -- The part of a closure inside a domain D is in Z, if every point of D is in Z that derives from a set W
 -- which is part of the closure and inside D part of Z.

@@ -1,20 +1,20 @@
 -- The fillings of the lower chapters with stable parts, listed chapter by chapter: each of them, and each once.
 use Rattle.std.proofs.Common.{◌≡◌, ℕ, zero, suc, ◌+◌, ◌^◌, ◌<◌, ◌≤◌, Bool, true, false, cond, ◌&&◌, ◌||◌, eqb, ltb, ◌⊎◌, List, [], ◌∷◌, sym, refl, ap, ◌∙◌, subst, ap₂, inl, inr, le_of_suc-le-suc, eq-or-lt_of_le, arith}
 use mathlib.Core.Path.{fun_ext}
-use Rattle.std.specs.List.{ContainsAt, flat_map}
-use Rattle.std.proofs.lemmas.Bool.{ltb-true, eqb-true, lt-ltb, eq-eqb, not-false, cond-true, cond-false}
+use Rattle.std.specs.List.{ContainsAt, flat_map, range_with_len}
+use Rattle.std.proofs.lemmas.Bool.{ltb-true, eqb-true, lt-ltb, eq-eqb, not-false, cond-true, cond-false, and_parts, and_from, or_cases, or_left, or_right}
 use Rattle.rulings.specs.Points.{Points, Part, union}
-use Rattle.rows.proofs.Putting.{has_first}
+use Rattle.rows.proofs.Putting.{has_none, has_first}
 use Rattle.semantics.specs.Meaning.{Meaning, Lawful}
 use Rattle.semantics.specs.Closure.{Stable}
 use Rattle.semantics.specs.Chapters.{in_chapter, below_chapter, chapter, PartStable}
 use Rattle.semantics.specs.Listing.{count_below, width}
-use Rattle.semantics.specs.Walk.{points_of, spread, none, numbers, holds, Test, Tells, with_candidate, passes}
-use Rattle.semantics.proofs.Tests.{false_is_not_true, and_both, and_of, or_split, or_left, or_right}
+use Rattle.semantics.specs.Walk.{points_of, spread, none, holds, Test, Tells, with_candidate, passes}
+use Rattle.semantics.proofs.Tests.{false_is_not_true}
 use Rattle.semantics.proofs.Closures.{same_points, closure_inside}
 use Rattle.semantics.proofs.Splitting.{chapter_lawful, in_chapter_of, below_chapter_of, own_chapter}
 use Rattle.semantics.proofs.Subsets.{place_below, number_of, number_below, spread_part, spread_number, spread_once}
-use Rattle.semantics.proofs.Joined.{Distinct, has_none, has_one, joined_has, has_joined, distinct_joined, numbers_has, has_numbers, distinct_numbers}
+use Rattle.semantics.proofs.Joined.{Distinct, has_one, joined_has, has_joined, distinct_joined, numbers_has, has_numbers, distinct_numbers}
 
 -- a set fills the chapters lower than k with stable parts, and has no other point
 pub record Filled (m : Meaning) (ch : ℕ → ℕ) (k : ℕ) (x : Points) : Type 0 where
@@ -29,7 +29,7 @@ candidate_list m ch test k U c = cond (passes m ch test k U c) (with_candidate m
 abbrev pub extend : Meaning → (ℕ → ℕ) → Test → ℕ → Points → List Points
 extend m ch test k U =
     cond (holds m ch k)
-    (flat_map (candidate_list m ch test k U) (numbers 0 (2 ^ width m ch k)))
+    (flat_map (candidate_list m ch test k U) (range_with_len 0 (2 ^ width m ch k)))
     (U ∷ [])
 
 -- the fillings of the chapters lower than k
@@ -50,15 +50,15 @@ fillings_suc m ch test k = refl
 module _ (m : Meaning) (ch : ℕ → ℕ) (k : ℕ) where
   pub points_inside : (a : ℕ) → points_of m ch k a ≡ true → a < m.size
   unfolding points_of
-  points_inside a h = ltb-true a m.size (and_both _ _ h).1
+  points_inside a h = ltb-true a m.size (and_parts _ _ h).1
 
   pub points_chapter : (a : ℕ) → points_of m ch k a ≡ true → ch a ≡ k
   unfolding points_of
-  points_chapter a h = eqb-true (ch a) k (and_both _ _ h).0
+  points_chapter a h = eqb-true (ch a) k (and_parts _ _ h).0
 
   pub points_of_own : (a : ℕ) → ch a ≡ k → a < m.size → points_of m ch k a ≡ true
   unfolding points_of
-  points_of_own a e l = and_of _ _ (eq-eqb (ch a) k e) (lt-ltb a m.size l)
+  points_of_own a e l = and_from _ _ (eq-eqb (ch a) k e) (lt-ltb a m.size l)
 
   pub points_count : count_below m.size (points_of m ch k) ≡ width m ch k
   unfolding points_of
@@ -125,9 +125,9 @@ module _ (m : Meaning) (l : Lawful m) (ch : ℕ → ℕ) where
       here : PartStable m ch U k
       here =
           record {
-            closed = λ a d. let p = and_both _ _ d in
+            closed = λ a d. let p = and_parts _ _ d in
                 absurd (no_points m ch k h a (eqb-true (ch a) k p.0) ((chapter_lawful m l ch k u u).derives_inside (in_chapter ch k U) (in_chapter ch k U) a d));
-            least = λ Z z a d. let p = and_both _ _ d in
+            least = λ Z z a d. let p = and_parts _ _ d in
                 let e = eqb-true (ch a) k p.0 in
                 let q = f.lower a p.1 in absurd (omega arith);
           }
@@ -139,7 +139,7 @@ module _ (m : Meaning) (l : Lawful m) (ch : ℕ → ℕ) where
   -- a set that fills one chapter more has no point there, if the chapter holds none
   pub empty_filled : (k : ℕ) (x : Points) → Filled m ch (suc k) x → holds m ch k ≡ false → below_chapter ch k x ≡ x
   empty_filled k x f h =
-      same_points (below_chapter ch k x) x (λ a e. (and_both _ _ e).1) (λ a e. below_chapter_of ch k x a (lower a e (eq-or-lt_of_le (le_of_suc-le-suc (f.lower a e)))) e)
+      same_points (below_chapter ch k x) x (λ a e. (and_parts _ _ e).1) (λ a e. below_chapter_of ch k x a (lower a e (eq-or-lt_of_le (le_of_suc-le-suc (f.lower a e)))) e)
     where
       lower : (a : ℕ) → x a ≡ true → (ch a ≡ k) ⊎ (ch a < k) → ch a < k
       lower a e (inl q) = absurd (no_points m ch k h a q (filled_inside (suc k) x f a e))
@@ -149,7 +149,7 @@ module _ (m : Meaning) (l : Lawful m) (ch : ℕ → ℕ) where
   pub lower_filled : (k : ℕ) (x : Points) → Filled m ch (suc k) x → Filled m ch k (below_chapter ch k x)
   lower_filled k x f =
       record {
-        lower = λ a h. ltb-true (ch a) k (and_both _ _ h).0;
+        lower = λ a h. ltb-true (ch a) k (and_parts _ _ h).0;
         stable = λ j q. stable_agrees m ch j x (below_chapter ch k x) (λ a p. sym (cut a (lt-ltb (ch a) k (omega arith)))) (f.stable j (omega arith));
       }
     where
@@ -164,7 +164,7 @@ module _ (m : Meaning) (l : Lawful m) (ch : ℕ → ℕ) where
     pub below_with : below_chapter ch k (with_candidate m ch k U c) ≡ U
     below_with =
         same_points (below_chapter ch k (with_candidate m ch k U c)) U
-        (λ a h. let p = and_both _ _ h in from a (ltb-true (ch a) k p.0) (or_split _ _ p.1))
+        (λ a h. let p = and_parts _ _ h in from a (ltb-true (ch a) k p.0) (or_cases _ _ p.1))
         (λ a h. below_chapter_of ch k (with_candidate m ch k U c) a (f.lower a h) (or_left _ _ h))
       where
         from : (a : ℕ) → ch a < k → (U a ≡ true) ⊎ (spread (points_of m ch k) c a ≡ true) → U a ≡ true
@@ -174,7 +174,7 @@ module _ (m : Meaning) (l : Lawful m) (ch : ℕ → ℕ) where
     pub part_with : in_chapter ch k (with_candidate m ch k U c) ≡ spread (points_of m ch k) c
     part_with =
         same_points (in_chapter ch k (with_candidate m ch k U c)) (spread (points_of m ch k) c)
-        (λ a h. let p = and_both _ _ h in from a (eqb-true (ch a) k p.0) (or_split _ _ p.1))
+        (λ a h. let p = and_parts _ _ h in from a (eqb-true (ch a) k p.0) (or_cases _ _ p.1))
         (λ a h. in_chapter_of ch k (with_candidate m ch k U c) a (eq-eqb (ch a) k (candidate_chapter a h)) (or_right _ _ h))
       where
         from : (a : ℕ) → ch a ≡ k → (U a ≡ true) ⊎ (spread (points_of m ch k) c a ≡ true) → spread (points_of m ch k) c a ≡ true
@@ -182,7 +182,7 @@ module _ (m : Meaning) (l : Lawful m) (ch : ℕ → ℕ) where
         from a q (inr e) = e
 
     pub with_inside : (a : ℕ) → with_candidate m ch k U c a ≡ true → a < m.size
-    with_inside a h = from (or_split _ _ h)
+    with_inside a h = from (or_cases _ _ h)
       where
         from : (U a ≡ true) ⊎ (spread (points_of m ch k) c a ≡ true) → a < m.size
         from (inl e) = filled_inside k U f a e
@@ -192,7 +192,7 @@ module _ (m : Meaning) (l : Lawful m) (ch : ℕ → ℕ) where
     pub with_filled : PartStable m ch (with_candidate m ch k U c) k → Filled m ch (suc k) (with_candidate m ch k U c)
     with_filled s =
         record {
-          lower = λ a h. lower a (or_split _ _ h);
+          lower = λ a h. lower a (or_cases _ _ h);
           stable = λ j q. at j (eq-or-lt_of_le (le_of_suc-le-suc q));
         }
       where
@@ -239,7 +239,7 @@ module _ (m : Meaning) (ch : ℕ → ℕ) (test : Test) (k : ℕ) (U : Points) w
       subst (λ (ys : List Points). ContainsAt ys (with_candidate m ch k U c)) (sym (cond-true (passes m ch test k U c) (with_candidate m ch k U c ∷ []) [] e))
       (has_first [] (with_candidate m ch k U c))
 
-  pub extend_holds : holds m ch k ≡ true → extend m ch test k U ≡ flat_map (candidate_list m ch test k U) (numbers 0 (2 ^ width m ch k))
+  pub extend_holds : holds m ch k ≡ true → extend m ch test k U ≡ flat_map (candidate_list m ch test k U) (range_with_len 0 (2 ^ width m ch k))
   extend_holds e = cond-true (holds m ch k) _ _ e
 
   pub extend_empty : holds m ch k ≡ false → extend m ch test k U ≡ U ∷ []
@@ -250,7 +250,7 @@ module _ (m : Meaning) (ch : ℕ → ℕ) (test : Test) (k : ℕ) (U : Points) w
     where
       go : (t : Bool) → holds m ch k ≡ t → ((holds m ch k ≡ false) × (U ≡ y)) ⊎ Extended m ch test k U y
       go true e =
-          let (c, there, q) = joined_has (candidate_list m ch test k U) (numbers 0 (2 ^ width m ch k)) y (subst (λ (ys : List Points). ContainsAt ys y) (extend_holds e) h) in
+          let (c, there, q) = joined_has (candidate_list m ch test k U) (range_with_len 0 (2 ^ width m ch k)) y (subst (λ (ys : List Points). ContainsAt ys y) (extend_holds e) h) in
           let (pass, same) = candidate_has c y q in
           inr (record { candidate = c; small = let (_, b) = numbers_has 0 (2 ^ width m ch k) c there in omega arith; passed = pass; is = same })
       go false e = inl (e, has_one U y (subst (λ (ys : List Points). ContainsAt ys y) (extend_empty e) h))
@@ -258,7 +258,7 @@ module _ (m : Meaning) (ch : ℕ → ℕ) (test : Test) (k : ℕ) (U : Points) w
   pub has_extended : (c : ℕ) → holds m ch k ≡ true → c < 2 ^ width m ch k → passes m ch test k U c ≡ true → ContainsAt (extend m ch test k U) (with_candidate m ch k U c)
   has_extended c e h p =
       subst (λ (ys : List Points). ContainsAt ys (with_candidate m ch k U c)) (sym (extend_holds e))
-      (has_joined (candidate_list m ch test k U) (numbers 0 (2 ^ width m ch k)) c (with_candidate m ch k U c) (has_numbers 0 (2 ^ width m ch k) c (omega arith) (omega arith)) (has_candidate c p))
+      (has_joined (candidate_list m ch test k U) (range_with_len 0 (2 ^ width m ch k)) c (with_candidate m ch k U c) (has_numbers 0 (2 ^ width m ch k) c (omega arith) (omega arith)) (has_candidate c p))
 
 module _ (m : Meaning) (l : Lawful m) (ch : ℕ → ℕ) (test : Test) where
   -- an extension keeps the part below
@@ -275,7 +275,7 @@ module _ (m : Meaning) (l : Lawful m) (ch : ℕ → ℕ) (test : Test) where
       D : Points
       D = points_of m ch k
 
-      same : (c d : ℕ) (y : Points) → ContainsAt (numbers 0 (2 ^ width m ch k)) c → ContainsAt (numbers 0 (2 ^ width m ch k)) d →
+      same : (c d : ℕ) (y : Points) → ContainsAt (range_with_len 0 (2 ^ width m ch k)) c → ContainsAt (range_with_len 0 (2 ^ width m ch k)) d →
           ContainsAt (candidate_list m ch test k U c) y → ContainsAt (candidate_list m ch test k U d) y → c ≡ d
       same c d y hc hd yc yd =
           let (_, bc) = numbers_has 0 (2 ^ width m ch k) c hc in
@@ -294,7 +294,7 @@ module _ (m : Meaning) (l : Lawful m) (ch : ℕ → ℕ) (test : Test) where
       go : (t : Bool) → holds m ch k ≡ t → Distinct (extend m ch test k U)
       go true e =
           subst Distinct (sym (extend_holds m ch test k U e))
-          (distinct_joined (candidate_list m ch test k U) (numbers 0 (2 ^ width m ch k)) (distinct_numbers 0 (2 ^ width m ch k)) (λ c _. each c) same)
+          (distinct_joined (candidate_list m ch test k U) (range_with_len 0 (2 ^ width m ch k)) (distinct_numbers 0 (2 ^ width m ch k)) (λ c _. each c) same)
       go false e = subst Distinct (sym (extend_empty m ch test k U e)) (tt, tt)
 
   module _ (tells : Tells m ch test) where
@@ -335,7 +335,7 @@ module _ (m : Meaning) (l : Lawful m) (ch : ℕ → ℕ) (test : Test) where
         p = in_chapter ch k x
 
         part : Part p D
-        part a h = let q = and_both _ _ h in points_of_own m ch k a (eqb-true (ch a) k q.0) (filled_inside m l ch (suc k) x f a q.1)
+        part a h = let q = and_parts _ _ h in points_of_own m ch k a (eqb-true (ch a) k q.0) (filled_inside m l ch (suc k) x f a q.1)
 
         c : ℕ
         c = number_of D m.size p
@@ -348,11 +348,11 @@ module _ (m : Meaning) (l : Lawful m) (ch : ℕ → ℕ) (test : Test) where
 
         whole : with_candidate m ch k U c ≡ x
         whole = ap (union U) is ∙ same_points (union U p) x
-            (λ a h. from a (or_split _ _ h)) (λ a h. to a h (eq-or-lt_of_le (le_of_suc-le-suc (f.lower a h))))
+            (λ a h. from a (or_cases _ _ h)) (λ a h. to a h (eq-or-lt_of_le (le_of_suc-le-suc (f.lower a h))))
           where
             from : (a : ℕ) → (U a ≡ true) ⊎ (p a ≡ true) → x a ≡ true
-            from a (inl e) = (and_both _ _ e).1
-            from a (inr e) = (and_both _ _ e).1
+            from a (inl e) = (and_parts _ _ e).1
+            from a (inr e) = (and_parts _ _ e).1
 
             to : (a : ℕ) → x a ≡ true → (ch a ≡ k) ⊎ (ch a < k) → union U p a ≡ true
             to a h (inl e) = or_right _ _ (in_chapter_of ch k x a (eq-eqb (ch a) k e) h)

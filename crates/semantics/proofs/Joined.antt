@@ -1,37 +1,20 @@
 -- Lists: elements, lists that are joined, and lists without repetition.
-use Rattle.std.proofs.Common.{◌≡◌, ℕ, zero, suc, ◌+◌, ◌-◌, ◌<◌, ◌≤◌, Bool, true, false, cond, ◌⊎◌, List, [], ◌∷◌, ◌++◌, length, get_or, sym, refl, ap, ◌∙◌, subst, inl, inr, append_assoc, arith}
-use Rattle.std.specs.List.{ContainsAt, flat_map, AllByRecursion}
-use Rattle.std.proofs.ByRecursion.{All-append, all-has, has_append_left, has_append_right}
+use Rattle.std.proofs.Common.{◌≡◌, ℕ, zero, suc, ◌+◌, ◌-◌, ◌<◌, ◌≤◌, Bool, true, false, cond, ◌⊎◌, List, [], ◌∷◌, ◌++◌, sym, refl, ap, ◌∙◌, subst, inl, inr, arith}
+use Rattle.std.specs.List.{ContainsAt, flat_map, AllByRecursion, range_with_len}
+use Rattle.std.proofs.ByRecursion.{All-append, all-has, has_append_left, has_append_right, has_append_cases}
+use Rattle.std.proofs.lemmas.List.FromFn.{length-range_with_len, get_or-range_with_len}
 use Rattle.std.proofs.lemmas.List.{append-nil}
+use Rattle.std.proofs.lemmas.List.Concat.{flat_map-append}
 use Rattle.rows.proofs.Pairwise.{Pairwise}
-use Rattle.rows.proofs.Putting.{has_first, has_later}
-use Rattle.semantics.specs.Walk.{numbers}
+use Rattle.rows.proofs.Putting.{has_none, has_first, has_later, has_cases}
 
 module _ {A : Type 0} where
-  pub has_none : (x : A) → ContainsAt [] x → ⊥
-  has_none x (k, h, is) = omega arith
-
-  pub has_cases : (xs : List A) (y x : A) → ContainsAt (y ∷ xs) x → (y ≡ x) ⊎ ContainsAt xs x
-  has_cases xs y x (zero, h, is) = inl (is x)
-  has_cases xs y x (suc k, h, is) = inr (k, omega arith, is)
-
   pub has_one : (y x : A) → ContainsAt (y ∷ []) x → y ≡ x
   has_one y x h = go (has_cases [] y x h)
     where
       go : (y ≡ x) ⊎ ContainsAt [] x → y ≡ x
       go (inl e) = e
       go (inr n) = absurd (has_none x n)
-
-  pub has_append_cases : (xs ys : List A) (x : A) → ContainsAt (xs ++ ys) x → ContainsAt xs x ⊎ ContainsAt ys x
-  has_append_cases [] ys x h = inr h
-  has_append_cases (y ∷ xs) ys x h =
-      elim (has_cases (xs ++ ys) y x h) [
-        | inl e ↦ inl (subst (λ (z : A). ContainsAt (y ∷ xs) z) e (has_first xs y))
-        | inr l ↦ elim (has_append_cases xs ys x l) [
-          | inl f ↦ inl (has_later xs y x f)
-          | inr b ↦ inr b
-        ]
-      ]
 
   pub all_of_has : (P : A → Type 0) (xs : List A) → ((x : A) → ContainsAt xs x → P x) → AllByRecursion P xs
   all_of_has P [] h = tt
@@ -50,10 +33,6 @@ module _ {A : Type 0} where
   )
 
 module _ {X A : Type 0} (f : X → List A) where
-  pub joined_append : (xs ys : List X) → flat_map f (xs ++ ys) ≡ flat_map f xs ++ flat_map f ys
-  joined_append [] ys = refl
-  joined_append (x ∷ xs) ys = ap (λ (zs : List A). f x ++ zs) (joined_append xs ys) ∙ sym (append_assoc (f x) (flat_map f xs) (flat_map f ys))
-
   pub joined_only : (x : X) → flat_map f (x ∷ []) ≡ f x
   joined_only x = append-nil (f x)
 
@@ -86,7 +65,7 @@ module _ {X A : Type 0} (f : X → List A) where
 
 pub joined_joined : {X Y A : Type 0} (f : X → List Y) (g : Y → List A) (xs : List X) → flat_map g (flat_map f xs) ≡ flat_map (λ x. flat_map g (f x)) xs
 joined_joined f g [] = refl
-joined_joined {A = A} f g (x ∷ xs) = joined_append g (f x) (flat_map f xs) ∙ ap (λ (zs : List A). flat_map g (f x) ++ zs) (joined_joined f g xs)
+joined_joined {A = A} f g (x ∷ xs) = flat_map-append g (f x) (flat_map f xs) ∙ ap (λ (zs : List A). flat_map g (f x) ++ zs) (joined_joined f g xs)
 
 pub joined_single : {A : Type 0} (xs : List A) → flat_map (λ x. x ∷ []) xs ≡ xs
 joined_single [] = refl
@@ -96,31 +75,22 @@ pub joined_cond : {X A : Type 0} (f : X → List A) (b : Bool) (xs : List X) →
 joined_cond f true xs = refl
 joined_cond f false xs = refl
 
--- ---- the numbers from c on
+-- ---- n numbers, from c on
 
-pub length_numbers : (c n : ℕ) → length (numbers c n) ≡ n
-length_numbers c zero = refl
-length_numbers c (suc n) = ap suc (length_numbers (suc c) n)
-
-pub get_or_numbers : (c n i d : ℕ) → i < n → get_or (numbers c n) i d ≡ c + i
-get_or_numbers c zero i d h = absurd (omega arith)
-get_or_numbers c (suc n) zero d h = omega arith
-get_or_numbers c (suc n) (suc i) d h = get_or_numbers (suc c) n i d (omega arith) ∙ omega arith
-
-pub numbers_has : (c n j : ℕ) → ContainsAt (numbers c n) j → (c ≤ j) × (j < c + n)
+pub numbers_has : (c n j : ℕ) → ContainsAt (range_with_len c n) j → (c ≤ j) × (j < c + n)
 numbers_has c zero j h = absurd (has_none j h)
 numbers_has c (suc n) j h =
-    elim (has_cases (numbers (suc c) n) c j h) [
+    elim (has_cases (range_with_len (c + 1) n) c j h) [
       | inl e ↦ (omega arith, omega arith)
-      | inr l ↦ let (low, high) = numbers_has (suc c) n j l in (omega arith, omega arith)
+      | inr l ↦ let (low, high) = numbers_has (c + 1) n j l in (omega arith, omega arith)
     ]
 
-pub has_numbers : (c n j : ℕ) → c ≤ j → j < c + n → ContainsAt (numbers c n) j
+pub has_numbers : (c n j : ℕ) → c ≤ j → j < c + n → ContainsAt (range_with_len c n) j
 has_numbers c n j h l =
     let i : j ≡ c + (j - c) = omega arith in
-    (j - c, rw (length_numbers c n) (omega arith), λ d. get_or_numbers c n (j - c) d (omega arith) ∙ sym i)
+    (j - c, rw (length-range_with_len c n) (omega arith), λ d. get_or-range_with_len c n (j - c) d (omega arith) ∙ sym i)
 
-pub distinct_numbers : (c n : ℕ) → Distinct (numbers c n)
+pub distinct_numbers : (c n : ℕ) → Distinct (range_with_len c n)
 distinct_numbers c zero = tt
 distinct_numbers c (suc n) =
-    (all_of_has (λ (j : ℕ). c ≡ j → ⊥) (numbers (suc c) n) (λ j h e. let (low, high) = numbers_has (suc c) n j h in omega arith), distinct_numbers (suc c) n)
+    (all_of_has (λ (j : ℕ). c ≡ j → ⊥) (range_with_len (c + 1) n) (λ j h e. let (low, high) = numbers_has (c + 1) n j h in omega arith), distinct_numbers (c + 1) n)

@@ -1,17 +1,18 @@
 -- The levels of the walk: the chapters that hold a point.
 use Rattle.std.proofs.Common.{◌≡◌, ℕ, zero, suc, ◌+◌, ◌<◌, ◌≤◌, Bool, true, false, cond, ◌⊎◌, List, [], ◌∷◌, ◌++◌, length, get_or, filter, sym, refl, ap, ◌∙◌, subst, inl, inr, add-one, arith}
-use Rattle.std.specs.List.{ContainsAt}
+use Rattle.std.specs.List.{ContainsAt, range_with_len}
+use Rattle.std.proofs.lemmas.List.FromFn.{length-range_with_len}
 use Rattle.std.proofs.lemmas.List.Elements.{filter-append}
 use Rattle.std.proofs.ByRecursion.{has_get_or}
 use Rattle.std.proofs.lemmas.List.{append-nil}
 use Rattle.std.proofs.lemmas.List.Sums.{length-filter, count_by-le-length}
 use Rattle.std.proofs.lemmas.Bool.{cond-true, cond-false}
-use Rattle.rows.proofs.Putting.{has_first, has_later}
+use Rattle.rows.proofs.Putting.{has_none, has_first, has_later, has_cases}
 use Rattle.semantics.specs.Meaning.{Meaning, Lawful}
 use Rattle.semantics.specs.Chapters.{Sixteen}
-use Rattle.semantics.specs.Walk.{numbers, holds, levels}
+use Rattle.semantics.specs.Walk.{holds, levels}
 use Rattle.semantics.proofs.Tests.{false_is_not_true}
-use Rattle.semantics.proofs.Joined.{has_none, has_cases, length_numbers, numbers_has, has_numbers}
+use Rattle.semantics.proofs.Joined.{numbers_has, has_numbers}
 use Rattle.semantics.proofs.Fillings.{no_points}
 
 has_kept_by : {X : Type 0} (p : X → Bool) (xs : List X) (x : X) → ContainsAt xs x → p x ≡ true → ContainsAt (filter p xs) x
@@ -41,7 +42,7 @@ kept_by_has {X} p (y ∷ xs) x h = go (p y) refl h (λ q. kept_by_has p xs x q)
 
 -- the n chapters from k on that hold a point
 pub levels_from : Meaning → (ℕ → ℕ) → ℕ → ℕ → List ℕ
-levels_from m ch n k = filter (holds m ch) (numbers k n)
+levels_from m ch n k = filter (holds m ch) (range_with_len k n)
 
 module _ (m : Meaning) (ch : ℕ → ℕ) where
   pub levels_all : levels m ch ≡ levels_from m ch 16 0
@@ -54,17 +55,17 @@ module _ (m : Meaning) (ch : ℕ → ℕ) where
 
   pub levels_holds : (n k : ℕ) → holds m ch k ≡ true → levels_from m ch (suc n) k ≡ k ∷ levels_from m ch n (suc k)
   unfolding levels_from
-  levels_holds n k e = cond-true (holds m ch k) _ _ e
+  levels_holds n k e = cond-true (holds m ch k) _ _ e ∙ ap (λ (j : ℕ). k ∷ filter (holds m ch) (range_with_len j n)) (add-one k)
 
   pub levels_empty : (n k : ℕ) → holds m ch k ≡ false → levels_from m ch (suc n) k ≡ levels_from m ch n (suc k)
   unfolding levels_from
-  levels_empty n k e = cond-false (holds m ch k) _ _ e
+  levels_empty n k e = cond-false (holds m ch k) _ _ e ∙ ap (λ (j : ℕ). filter (holds m ch) (range_with_len j n)) (add-one k)
 
 -- the chapter of point 0 is a level
 pub first_level : (m : Meaning) → Lawful m → (ch : ℕ → ℕ) → Sixteen ch → ContainsAt (levels m ch) (ch 0)
 unfolding levels
 first_level m l ch few =
-    has_kept_by (holds m ch) (numbers 0 16) (ch 0) (has_numbers 0 16 (ch 0) (omega arith) (let h = few 0 in omega arith)) (go (holds m ch (ch 0)) refl)
+    has_kept_by (holds m ch) (range_with_len 0 16) (ch 0) (has_numbers 0 16 (ch 0) (omega arith) (let h = few 0 in omega arith)) (go (holds m ch (ch 0)) refl)
   where
     go : (t : Bool) → holds m ch (ch 0) ≡ t → t ≡ true
     go true e = refl
@@ -74,21 +75,19 @@ first_level m l ch few =
 pub level_holds : (m : Meaning) (ch : ℕ → ℕ) (j : ℕ) → j < length (levels m ch) → (get_or (levels m ch) j 0 < 16) × (holds m ch (get_or (levels m ch) j 0) ≡ true)
 unfolding levels
 level_holds m ch j h =
-    let (there, e) = kept_by_has (holds m ch) (numbers 0 16) (get_or (levels m ch) j 0) (has_get_or (levels m ch) j 0 h) in
+    let (there, e) = kept_by_has (holds m ch) (range_with_len 0 16) (get_or (levels m ch) j 0) (has_get_or (levels m ch) j 0 h) in
     let (_, small) = numbers_has 0 16 (get_or (levels m ch) j 0) there in
     (omega arith, e)
 
 -- ---- the levels found one chapter after another
 
-numbers_push : (c n : ℕ) → numbers c (suc n) ≡ numbers c n ++ (c + n) ∷ []
-numbers_push c zero = ap (λ (k : ℕ). k ∷ []) (omega arith)
-numbers_push c (suc n) =
-    let e : suc c + n ≡ c + suc n = omega arith in
-    ap (λ (ks : List ℕ). c ∷ ks) (numbers_push (suc c) n ∙ ap (λ (k : ℕ). numbers (suc c) n ++ k ∷ []) e)
+numbers_push : (c n j : ℕ) → c + n ≡ j → range_with_len c (suc n) ≡ range_with_len c n ++ j ∷ []
+numbers_push c zero j e = let same : c ≡ j = omega arith in ap (λ (k : ℕ). k ∷ []) same
+numbers_push c (suc n) j e = ap (λ (ks : List ℕ). c ∷ ks) (numbers_push (c + 1) n j (omega arith))
 
 -- the levels among the chapters below n
 pub levels_below : Meaning → (ℕ → ℕ) → ℕ → List ℕ
-levels_below m ch n = filter (holds m ch) (numbers 0 n)
+levels_below m ch n = filter (holds m ch) (range_with_len 0 n)
 
 module _ (m : Meaning) (ch : ℕ → ℕ) where
   pub levels_below_zero : levels_below m ch 0 ≡ []
@@ -102,9 +101,8 @@ module _ (m : Meaning) (ch : ℕ → ℕ) where
   levels_below_push : (n : ℕ) → levels_below m ch (n + 1) ≡ levels_below m ch n ++ filter (holds m ch) (n ∷ [])
   unfolding levels_below
   levels_below_push n =
-      let e : 0 + n ≡ n = omega arith in
-      ap (λ (i : ℕ). filter (holds m ch) (numbers 0 i)) (add-one n)
-      ∙ (ap (filter (holds m ch)) (numbers_push 0 n ∙ ap (λ (i : ℕ). numbers 0 n ++ i ∷ []) e) ∙ filter-append (holds m ch) (numbers 0 n) (n ∷ []))
+      ap (λ (i : ℕ). filter (holds m ch) (range_with_len 0 i)) (add-one n)
+      ∙ (ap (filter (holds m ch)) (numbers_push 0 n n (omega arith)) ∙ filter-append (holds m ch) (range_with_len 0 n) (n ∷ []))
 
   pub levels_below_more : (n : ℕ) → holds m ch n ≡ true → levels_below m ch (n + 1) ≡ levels_below m ch n ++ n ∷ []
   levels_below_more n e = levels_below_push n ∙ ap (λ (ks : List ℕ). levels_below m ch n ++ ks) (cond-true (holds m ch n) _ _ e)
@@ -115,9 +113,9 @@ module _ (m : Meaning) (ch : ℕ → ℕ) where
   pub levels_below_few : (n : ℕ) → length (levels_below m ch n) ≤ n
   unfolding levels_below
   levels_below_few n =
-      let a = length-filter (holds m ch) (numbers 0 n) in
-      let b = count_by-le-length (holds m ch) (numbers 0 n) in
-      let c = length_numbers 0 n in
+      let a = length-filter (holds m ch) (range_with_len 0 n) in
+      let b = count_by-le-length (holds m ch) (range_with_len 0 n) in
+      let c = length-range_with_len 0 n in
       omega arith
 
 -- a book has a level

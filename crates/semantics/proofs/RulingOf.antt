@@ -1,16 +1,15 @@
 -- The ruling of a set of points below 128.
 use Rattle.std.proofs.Common.{◌≡◌, ℕ, zero, suc, ◌+◌, ◌*◌, ◌/◌, ◌%◌, ◌<◌, true, List, map, length, get_or, sym, refl, ap, ◌∙◌, inl, inr, mod-lt, div-add-mod', arith}
+use Rattle.std.specs.List.{range_with_len}
 use mathlib.Core.Path.{fun_ext}
-use Rattle.std.proofs.lemmas.List.{get_or-map, get_or_past, length-map}
-use Rattle.std.proofs.lemmas.Bool.{cases_lt}
+use Rattle.std.proofs.lemmas.List.FromFn.{length-map-range_with_len, get_or-map-range_with_len}
+use Rattle.std.proofs.lemmas.List.{get_or_past}
+use Rattle.std.proofs.lemmas.Bool.{cases_lt, false_from_ne_true}
 use Rattle.rulings.specs.Points.{Points}
 use Rattle.rulings.specs.Rulings.{digit, has}
 use Rattle.rulings.specs.declared.ruling.Ruling.{Ruling}
 use Rattle.rulings.proofs.Bytes.{has_past, same_points}
 use Rattle.semantics.specs.Listing.{count_below}
-use Rattle.semantics.specs.Walk.{numbers}
-use Rattle.semantics.proofs.Tests.{not_true}
-use Rattle.semantics.proofs.Joined.{length_numbers, get_or_numbers}
 use Rattle.semantics.proofs.Subsets.{number_of, number_below, number_digit}
 
 every : Points
@@ -34,17 +33,15 @@ unfolding byte_of every
 byte_of_digit x i k h = ap (digit (byte_of x i)) (sym (count_every k)) ∙ number_digit every 8 (λ j. x (i * 8 + j)) k h refl
 
 bytes_of : Points → List ℕ
-bytes_of x = map (byte_of x) (numbers 0 16)
+bytes_of x = map (byte_of x) (range_with_len 0 16)
 
 bytes_long : (x : Points) → length (bytes_of x) ≡ 16
 unfolding bytes_of
-bytes_long x = length-map (numbers 0 16) (byte_of x) ∙ length_numbers 0 16
+bytes_long x = length-map-range_with_len (byte_of x) 0 16
 
 bytes_at : (x : Points) (i : ℕ) → i < 16 → get_or (bytes_of x) i 0 ≡ byte_of x i
 unfolding bytes_of
-bytes_at x i h =
-    get_or-map (byte_of x) (numbers 0 16) i 0 0 (let l = length_numbers 0 16 in omega arith)
-    ∙ ap (byte_of x) (get_or_numbers 0 16 i 0 h ∙ omega arith)
+bytes_at x i h = get_or-map-range_with_len (byte_of x) 0 16 i i 0 h (omega arith)
 
 bytes_small : (x : Points) (i : ℕ) → get_or (bytes_of x) i 0 < 256
 bytes_small x i =
@@ -68,7 +65,7 @@ pub ruling_of_same : (x : Points) → ((a : ℕ) → x a ≡ true → a < 128) �
 ruling_of_same x small =
     fun_ext (λ a. elim (cases_lt a 128) [
       | inl h ↦ ruling_of_has x a h
-      | inr h ↦ has_past (ruling_of x) a h ∙ sym (not_true (x a) (λ e. let l = small a e in omega arith))
+      | inr h ↦ has_past (ruling_of x) a h ∙ sym (false_from_ne_true (x a) (λ e. let l = small a e in omega arith))
     ])
 
 pub ruling_of_points : (r : Ruling) → ruling_of (has r) ≡ r

@@ -1,10 +1,10 @@
 -- Closures and stable rulings, a chapter at a time.
 use Rattle.std.proofs.Common.{◌≡◌, ℕ, zero, suc, ◌<◌, ◌≤◌, true, eqb, ◌⊎◌, refl, subst, inl, inr, not-suc-le-zero, eq-or-lt_of_le, arith, ltb-true, lt-ltb, eq-eqb, eqb-true}
+use Rattle.std.proofs.lemmas.Bool.{and_parts, and_from, or_cases, or_left, or_right}
 use Rattle.rulings.specs.Points.{Points, Part, union}
 use Rattle.semantics.specs.Meaning.{Meaning, Lawful}
 use Rattle.semantics.specs.Closure.{Closed, IsClosure}
 use Rattle.semantics.specs.Chapters.{in_chapter, below_chapter, Fit, chapter, ChapterLawful, ClosureSplits, StableSplits}
-use Rattle.semantics.proofs.Tests.{and_both, and_of, or_split, or_left, or_right}
 use Rattle.semantics.proofs.Restricting.{restricted_lawful}
 use Rattle.semantics.proofs.Closures.{derives_mono, closure_least_inside}
 
@@ -25,7 +25,7 @@ PartBelow ch k x z = (b : ℕ) → ch b < k → x b ≡ true → z b ≡ true
 
 -- a union is within a set that both parts are within
 union_within : (x y z : Points) → Part x z → Part y z → Part (union x y) z
-union_within x y z p q a h = go (or_split (x a) (y a) h)
+union_within x y z p q a h = go (or_cases (x a) (y a) h)
   where
     go : (x a ≡ true) ⊎ (y a ≡ true) → z a ≡ true
     go (inl e) = p a e
@@ -33,19 +33,19 @@ union_within x y z p q a h = go (or_split (x a) (y a) h)
 
 module _ (ch : ℕ → ℕ) (k : ℕ) where
   pub in_chapter_of : (x : Points) → PartIn ch k x (in_chapter ch k x)
-  in_chapter_of x b e h = and_of _ _ e h
+  in_chapter_of x b e h = and_from _ _ e h
 
   pub in_chapter_within : (x z : Points) → PartIn ch k x z → Part (in_chapter ch k x) z
-  in_chapter_within x z p b h = let q = and_both _ _ h in p b q.0 q.1
+  in_chapter_within x z p b h = let q = and_parts _ _ h in p b q.0 q.1
 
   pub in_chapter_part : (x : Points) → Part (in_chapter ch k x) x
   in_chapter_part x = in_chapter_within x x (λ b _ h. h)
 
   pub below_chapter_of : (x : Points) → PartBelow ch k x (below_chapter ch k x)
-  below_chapter_of x b e h = and_of _ _ (lt-ltb (ch b) k e) h
+  below_chapter_of x b e h = and_from _ _ (lt-ltb (ch b) k e) h
 
   pub below_chapter_within : (x z : Points) → PartBelow ch k x z → Part (below_chapter ch k x) z
-  below_chapter_within x z p b h = let q = and_both _ _ h in p b (ltb-true (ch b) k q.0) q.1
+  below_chapter_within x z p b h = let q = and_parts _ _ h in p b (ltb-true (ch b) k q.0) q.1
 
   -- what chapter k looks points up in: u for the lower chapters, z for its own
   abbrev pub patch : Points → Points → Points
@@ -67,7 +67,7 @@ chapter_lawful m l ch k U V = restricted_lawful m l (of_chapter ch k) U V
 
 -- only points of chapter k derive in it
 pub derived_of_chapter : (m : Meaning) (ch : ℕ → ℕ) (k : ℕ) (U V x y : Points) → Part ((chapter m ch k U V).derives x y) (of_chapter ch k)
-derived_of_chapter m ch k U V x y a h = (and_both _ _ h).0
+derived_of_chapter m ch k U V x y a h = (and_parts _ _ h).0
 
 -- chapter k, under the parts of u and v in the lower chapters
 abbrev pub chapter_under : Meaning → (ℕ → ℕ) → ℕ → Points → Points → Meaning
@@ -85,7 +85,7 @@ module _ (m : Meaning) (l : Lawful m) (ch : ℕ → ℕ) (fit : Fit m ch) (k : �
   pub derives_in_chapter : (x y u v z w : Points) → PartBelow ch k x u → PartIn ch k x z → PartBelow ch k v y → PartIn ch k w y →
       (a : ℕ) → of_chapter ch k a ≡ true → m.derives x y a ≡ true → (chapter_under m ch k u v).derives z w a ≡ true
   derives_in_chapter x y u v z w xu xz vy wy a e h =
-      and_of _ _ e (derives_mono m l x (patch ch k u z) y (patch ch k v w) a compared h)
+      and_from _ _ e (derives_mono m l x (patch ch k u z) y (patch ch k v w) a compared h)
     where
       compared : (b : ℕ) → m.reads a b ≡ true → (x b ≡ true → patch ch k u z b ≡ true) × (patch ch k v w b ≡ true → y b ≡ true)
       compared b r = (patch_of ch k x u z xu xz b (reads_up_to a b e r), patch_within ch k v w y vy wy b)
@@ -94,11 +94,11 @@ module _ (m : Meaning) (l : Lawful m) (ch : ℕ → ℕ) (fit : Fit m ch) (k : �
   pub derives_in_book : (u v z w x y : Points) → PartBelow ch k u x → PartIn ch k z x → PartBelow ch k y v → PartIn ch k y w →
       (a : ℕ) → (chapter_under m ch k u v).derives z w a ≡ true → m.derives x y a ≡ true
   derives_in_book u v z w x y ux zx yv yw a h =
-      derives_mono m l (patch ch k u z) x (patch ch k v w) y a compared (and_both _ _ h).1
+      derives_mono m l (patch ch k u z) x (patch ch k v w) y a compared (and_parts _ _ h).1
     where
       compared : (b : ℕ) → m.reads a b ≡ true → (patch ch k u z b ≡ true → x b ≡ true) × (y b ≡ true → patch ch k v w b ≡ true)
       compared b r =
-          (patch_within ch k u z x ux zx b, patch_of ch k y v w yv yw b (reads_up_to a b (and_both _ _ h).0 r))
+          (patch_within ch k u z x ux zx b, patch_of ch k y v w yv yw b (reads_up_to a b (and_parts _ _ h).0 r))
 
   -- a closure in the book is one in every chapter
   pub closure_restricts : (y X : Points) → IsClosure m y X → IsClosureIn m ch k y X

@@ -4,13 +4,13 @@ use mathlib.Core.Path.{fun_ext}
 use lib.Bits.{bit_or}
 use lib.Pow.{pow-lt}
 use Rattle.std.proofs.lemmas.Nat.{or_lt}
-use Rattle.std.proofs.lemmas.Bool.{eq-eqb, ne_eqb}
+use Rattle.std.proofs.lemmas.Bool.{eq-eqb, ne_eqb, false_from_ne_true}
 use Rattle.rulings.specs.Points.{Points, Part}
 use Rattle.rulings.specs.Rulings.{digit}
 use Rattle.rulings.proofs.Digits.{digit_or, digit_power, digit_past, same_digits}
 use Rattle.semantics.specs.Listing.{count_below}
 use Rattle.semantics.specs.Walk.{spread, SubsetsNumbered}
-use Rattle.semantics.proofs.Tests.{false_is_not_true, not_true}
+use Rattle.semantics.proofs.Tests.{false_is_not_true}
 
 module _ (D : Points) where
   pub count_yes : (n : ℕ) → D n ≡ true → count_below (suc n) D ≡ suc (count_below n D)
@@ -121,7 +121,7 @@ module _ (n : ℕ) (D : Points) (inside : (a : ℕ) → D a ≡ true → a < n) 
     where
       go : (a : ℕ) (t : Bool) → D a ≡ t → spread D (number_of D n x) a ≡ x a
       go a true e = spread_at D (number_of D n x) a e ∙ number_digit D n x a (inside a e) e
-      go a false e = spread_off D (number_of D n x) a e ∙ sym (not_true (x a) (λ h. absurd (false_is_not_true (sym e ∙ p a h))))
+      go a false e = spread_off D (number_of D n x) a e ∙ sym (false_from_ne_true (x a) (λ h. absurd (false_is_not_true (sym e ∙ p a h))))
 
   -- two numbers of one subset are equal
   pub spread_once : (c d : ℕ) → c < 2 ^ count_below n D → d < 2 ^ count_below n D → spread D c ≡ spread D d → c ≡ d

@@ -1,15 +1,17 @@
 -- The walk completes every set with stable parts once, and makes as many tries as the effort says.
 use Rattle.std.proofs.Common.{◌≡◌, ℕ, zero, suc, ◌+◌, ◌*◌, ◌^◌, ◌<◌, Bool, true, false, cond, not, ◌&&◌, eqb, List, [], ◌∷◌, ◌++◌, length, sym, refl, ap, ◌∙◌, subst, ap₂, suc-mul, mul-zero, zero-mul, arith, length-append}
 use mathlib.Core.Path.{fun_ext}
-use Rattle.std.specs.List.{ContainsAt, flat_map}
+use Rattle.std.specs.List.{ContainsAt, flat_map, range_with_len}
+use Rattle.std.proofs.lemmas.List.FromFn.{length-range_with_len}
 use Rattle.std.proofs.lemmas.Bool.{cond-true, cond-false}
 use Rattle.rulings.specs.Points.{Points}
 use Rattle.rows.proofs.Pairwise.{to_places}
+use Rattle.rows.proofs.Putting.{has_none}
 use Rattle.semantics.specs.Meaning.{Meaning}
 use Rattle.semantics.specs.Chapters.{PartStable}
 use Rattle.semantics.specs.Listing.{width, sum_below}
-use Rattle.semantics.specs.Walk.{none, numbers, holds, levels, Test, Try, with_candidate, passes, try_of, tries, walk, completed, AllOnce, WalkCompletes, WalkEffort}
-use Rattle.semantics.proofs.Joined.{has_none, joined_only, joined_joined, joined_single, joined_cond, length_numbers}
+use Rattle.semantics.specs.Walk.{none, holds, levels, Test, Try, with_candidate, passes, try_of, tries, walk, completed, AllOnce, WalkCompletes, WalkEffort}
+use Rattle.semantics.proofs.Joined.{joined_only, joined_joined, joined_single, joined_cond}
 use Rattle.semantics.proofs.Fillings.{candidate_list, extend, extend_holds, extend_empty, fillings, fillings_zero, fillings_suc, fillings_sound, fillings_complete, fillings_distinct}
 use Rattle.semantics.proofs.Ways.{ways_counted}
 use Rattle.semantics.proofs.Levels.{levels_from, levels_all, levels_none, levels_holds, levels_empty, first_level}
@@ -38,7 +40,7 @@ module _ (m : Meaning) (ch : ℕ → ℕ) where
 results : Meaning → (ℕ → ℕ) → Test → List ℕ → Points → List Points
 results m ch test [] U = U ∷ []
 results m ch test (k ∷ ks) U =
-    flat_map (λ c. cond (passes m ch test k U c) (results m ch test ks (with_candidate m ch k U c)) []) (numbers 0 (2 ^ width m ch k))
+    flat_map (λ c. cond (passes m ch test k U c) (results m ch test ks (with_candidate m ch k U c)) []) (range_with_len 0 (2 ^ width m ch k))
 
 module _ (m : Meaning) (ch : ℕ → ℕ) (test : Test) where
   -- a candidate that does not complete a ruling, or does
@@ -56,22 +58,22 @@ module _ (m : Meaning) (ch : ℕ → ℕ) (test : Test) where
   tries_complete : (k : ℕ) (ks : List ℕ) (U : Points) → completed m ch (tries m ch test (k ∷ ks) U) ≡ results m ch test (k ∷ ks) U
   unfolding tries results
   tries_complete k [] U =
-      completed_joined m ch _ (numbers 0 (2 ^ width m ch k))
-      ∙ ap (λ (f : ℕ → List Points). flat_map f (numbers 0 (2 ^ width m ch k)))
+      completed_joined m ch _ (range_with_len 0 (2 ^ width m ch k))
+      ∙ ap (λ (f : ℕ → List Points). flat_map f (range_with_len 0 (2 ^ width m ch k)))
       (fun_ext (λ c. completed_last (try_of m ch test k [] U c) (passes m ch test k U c) refl))
   tries_complete k (j ∷ ks) U =
-      completed_joined m ch _ (numbers 0 (2 ^ width m ch k))
-      ∙ ap (λ (f : ℕ → List Points). flat_map f (numbers 0 (2 ^ width m ch k)))
+      completed_joined m ch _ (range_with_len 0 (2 ^ width m ch k))
+      ∙ ap (λ (f : ℕ → List Points). flat_map f (range_with_len 0 (2 ^ width m ch k)))
       (fun_ext (λ c. completed_higher (try_of m ch test k (j ∷ ks) U c) (passes m ch test k U c) (tries m ch test (j ∷ ks) (with_candidate m ch k U c)) refl
       ∙ ap (λ (xs : List Points). cond (passes m ch test k U c) xs []) (tries_complete j ks (with_candidate m ch k U c))))
 
   -- a list made for each extension of U is made for each stable candidate
   joined_extend : {A : Type 0} (g : Points → List A) (k : ℕ) (U : Points) → holds m ch k ≡ true →
-      flat_map g (extend m ch test k U) ≡ flat_map (λ c. cond (passes m ch test k U c) (g (with_candidate m ch k U c)) []) (numbers 0 (2 ^ width m ch k))
+      flat_map g (extend m ch test k U) ≡ flat_map (λ c. cond (passes m ch test k U c) (g (with_candidate m ch k U c)) []) (range_with_len 0 (2 ^ width m ch k))
   joined_extend {A} g k U e =
       ap (flat_map g) (extend_holds m ch test k U e)
-      ∙ (joined_joined (candidate_list m ch test k U) g (numbers 0 (2 ^ width m ch k))
-      ∙ ap (λ (f : ℕ → List A). flat_map f (numbers 0 (2 ^ width m ch k)))
+      ∙ (joined_joined (candidate_list m ch test k U) g (range_with_len 0 (2 ^ width m ch k))
+      ∙ ap (λ (f : ℕ → List A). flat_map f (range_with_len 0 (2 ^ width m ch k)))
       (fun_ext (λ c. joined_cond g (passes m ch test k U c) (with_candidate m ch k U c ∷ [])
       ∙ ap (λ (xs : List A). cond (passes m ch test k U c) xs []) (joined_only g (with_candidate m ch k U c)))))
 
@@ -165,8 +167,8 @@ module _ (m : Meaning) (ch : ℕ → ℕ) (test : Test) where
       go false e =
           let q : holds m ch k ≡ true = ap not e in
           ap (λ (ks : List ℕ). length (tries m ch test ks U)) (levels_holds m ch n k q)
-          ∙ (length_joined_cons (try_of m ch test k rest U) (λ c. cond (passes m ch test k U c) (tries m ch test rest (with_candidate m ch k U c)) []) (numbers 0 (2 ^ width m ch k))
-          ∙ ap₂ ◌+◌ (length_numbers 0 (2 ^ width m ch k)) (ap length (sym (joined_extend m ch test (tries m ch test rest) k U q))))
+          ∙ (length_joined_cons (try_of m ch test k rest U) (λ c. cond (passes m ch test k U c) (tries m ch test rest (with_candidate m ch k U c)) []) (range_with_len 0 (2 ^ width m ch k))
+          ∙ ap₂ ◌+◌ (length-range_with_len 0 (2 ^ width m ch k)) (ap length (sym (joined_extend m ch test (tries m ch test rest) k U q))))
 
   -- the summand of the effort
   effort_at : ℕ → ℕ

@@ -1,12 +1,12 @@
 -- The walk step by step: what remains of the tries from a level and a candidate, over the candidates picked at the lower levels.
 use Rattle.std.proofs.Common.{◌≡◌, ℕ, zero, suc, ◌+◌, ◌-◌, ◌^◌, ◌<◌, ◌≤◌, Bool, true, false, cond, ◌&&◌, List, [], ◌∷◌, ◌++◌, length, get_or, take, drop, set, sym, refl, ap, ◌∙◌, ap₂, append_assoc, add-one, arith, length-drop}
-use Rattle.std.specs.List.{flat_map}
+use Rattle.std.specs.List.{flat_map, range_with_len}
 use Rattle.std.proofs.lemmas.List.{append-nil, drop_more, drop_all, take_more, get_or-set_same, get_or-set_other}
 use Rattle.std.proofs.lemmas.Bool.{cond-true, cond-false}
 use Rattle.rulings.specs.Points.{Points}
 use Rattle.semantics.specs.Meaning.{Meaning}
 use Rattle.semantics.specs.Listing.{width}
-use Rattle.semantics.specs.Walk.{none, numbers, Test, Try, with_candidate, last, passes, try_of, tries, completed}
+use Rattle.semantics.specs.Walk.{none, Test, Try, with_candidate, last, passes, try_of, tries, completed}
 use Rattle.semantics.proofs.Walk.{completed_append}
 
 -- ---- tries done and tries left
@@ -71,7 +71,7 @@ pub from_candidate : Meaning → (ℕ → ℕ) → Test → List ℕ → ℕ →
 from_candidate m ch test ks j U c =
     flat_map (λ d. try_of m ch test (get_or ks j 0) (drop (j + 1) ks) U d
     ∷ cond (passes m ch test (get_or ks j 0) U d) (tries m ch test (drop (j + 1) ks) (with_candidate m ch (get_or ks j 0) U d)) [])
-    (numbers c (size_at m ch ks j - c))
+    (range_with_len c (size_at m ch ks j - c))
 
 -- the tries that the levels below still have after their picks, the highest level first
 pub pending : Meaning → (ℕ → ℕ) → Test → List ℕ → List ℕ → ℕ → List Try
@@ -103,7 +103,7 @@ module _ (m : Meaning) (ch : ℕ → ℕ) (test : Test) (ks : List ℕ) where
       let e : size_at m ch ks j ≡ size_at m ch ks j - 0 = omega arith in
       ap (λ (ls : List ℕ). tries m ch test ls U) (drop_more ks j 0 h)
       ∙ ap (λ (n : ℕ). flat_map (λ d. try_of m ch test (get_or ks j 0) (drop (j + 1) ks) U d
-      ∷ cond (passes m ch test (get_or ks j 0) U d) (tries m ch test (drop (j + 1) ks) (with_candidate m ch (get_or ks j 0) U d)) []) (numbers 0 n)) e
+      ∷ cond (passes m ch test (get_or ks j 0) U d) (tries m ch test (drop (j + 1) ks) (with_candidate m ch (get_or ks j 0) U d)) []) (range_with_len 0 n)) e
 
   from_next : (j : ℕ) (U : Points) (c : ℕ) → c < size_at m ch ks j → from_candidate m ch test ks j U c
       ≡ try_of m ch test (get_or ks j 0) (drop (j + 1) ks) U c
@@ -111,7 +111,7 @@ module _ (m : Meaning) (ch : ℕ → ℕ) (test : Test) (ks : List ℕ) where
   unfolding from_candidate
   from_next j U c h =
       let e : size_at m ch ks j - c ≡ suc (size_at m ch ks j - (c + 1)) = omega arith in
-      ap (λ (n : ℕ). flat_map f (numbers c n)) e ∙ ap (λ (d : ℕ). f c ++ flat_map f (numbers d (size_at m ch ks j - (c + 1)))) (sym (add-one c))
+      ap (λ (n : ℕ). flat_map f (range_with_len c n)) e
     where
       f : ℕ → List Try
       f d = try_of m ch test (get_or ks j 0) (drop (j + 1) ks) U d

@@ -1,5 +1,5 @@
--- The fillings as rulings in row order, and the number of ways to fill the lower chapters.
-use Rattle.std.proofs.Common.{◌≡◌, ℕ, zero, suc, ◌+◌, ◌*◌, ◌^◌, ◌<◌, cond, eqb, ◌⊎◌, List, [], ◌∷◌, map, length, sym, refl, ap, ◌∙◌, subst, ap₂, inl, inr, arith}
+-- The fillings as rulings in row order, the number of ways to fill the lower chapters, and that a listing is one.
+use Rattle.std.proofs.Common.{◌≡◌, ℕ, zero, suc, ◌+◌, ◌*◌, ◌^◌, ◌<◌, cond, eqb, List, [], ◌∷◌, map, length, sym, refl, ap, ◌∙◌, subst, ap₂, inl, inr, arith}
 use Rattle.std.specs.List.{ContainsAt}
 use Rattle.std.proofs.ByRecursion.{all-has}
 use Rattle.std.proofs.lemmas.List.{length-map}
@@ -9,20 +9,21 @@ use Rattle.rulings.specs.Order.{Precedes, StrictTotal}
 use Rattle.rulings.specs.declared.ruling.Ruling.{Ruling}
 use Rattle.rulings.proofs.Bytes.{same_points}
 use Rattle.rulings.proofs.RowOrder.{row_order}
-use Rattle.rows.proofs.Pairwise.{ByPlaces, Pairwise, from_places}
-use Rattle.rows.proofs.Putting.{has_first, has_later, put_among, put_length, put_has_row, put_keeps, put_adds_only, put_strictly}
+use Rattle.rows.specs.Rows.{StrictlyInOrder}
+use Rattle.rows.proofs.Same.{same_rows}
+use Rattle.rows.proofs.Putting.{has_none, has_first, has_later, has_cases, put_among, put_length, put_has_row, put_keeps, put_adds_only, put_strictly}
 use Rattle.semantics.specs.Meaning.{Meaning, Lawful}
 use Rattle.semantics.specs.Chapters.{PartStable}
 use Rattle.semantics.specs.Listing.{width, AllInRowOrder, Fills, Ways, sum_below, Effort, AllPartsStable}
 use Rattle.semantics.specs.Walk.{Test, Tells, AllOnce, EffortUnique}
-use Rattle.semantics.proofs.Joined.{Distinct, has_none, has_cases, all_of_has}
+use Rattle.semantics.proofs.Joined.{Distinct, all_of_has}
 use Rattle.semantics.proofs.RulingOf.{ruling_of, ruling_of_same, ruling_of_points}
 use Rattle.semantics.proofs.Fillings.{Filled, fillings, filled_inside, fillings_sound, fillings_complete, fillings_distinct}
 
 -- the same elements, in strict order
 pub record Sorted {A : Type 0} (before : A → A → Type 0) (xs : List A) : Type 0 where
   pub rows : List A
-  pub strict : ByPlaces before rows
+  pub strict : StrictlyInOrder before rows
   pub as_long : length rows ≡ length xs
   pub only : (x : A) → ContainsAt rows x → ContainsAt xs x
   pub each : (x : A) → ContainsAt xs x → ContainsAt rows x
@@ -118,36 +119,17 @@ module _ (m : Meaning) (l : Lawful m) (ch : ℕ → ℕ) where
       only : (r : Ruling) → (x : Points) × ContainsAt xs x × (ruling_of x ≡ r) → Fills m ch k r
       only r (x, there, e) = filled_fills k r (subst (Filled m ch k) (sym (is x there) ∙ ap has e) (filled x there))
 
--- ---- the ways and the effort are determined
+-- ---- a listing, the ways and the effort are determined
 
--- two lists in strict order with the same elements are equally long
-same_length : {A : Type 0} (before : A → A → Type 0) → StrictTotal before → (xs ys : List A) → Pairwise before xs → Pairwise before ys →
-    ((x : A) → ContainsAt xs x → ContainsAt ys x) → ((x : A) → ContainsAt ys x → ContainsAt xs x) → length xs ≡ length ys
-same_length before order [] [] p q f g = refl
-same_length before order [] (y ∷ ys) p q f g = absurd (has_none y (g y (has_first ys y)))
-same_length before order (x ∷ xs) [] p q f g = absurd (has_none x (f x (has_first xs x)))
-same_length {A} before order (x ∷ xs) (y ∷ ys) p q f g =
-    ap suc (same_length before order xs ys p.1 q.1
-    (λ z h. tail ys y x same z (all-has (before x) xs z p.0 h) (has_cases ys y z (f z (has_later xs x z h))))
-    (λ z h. tail xs x y (sym same) z (all-has (before y) ys z q.0 h) (has_cases xs x z (g z (has_later ys y z h)))))
-  where
-    heads : (y ≡ x) ⊎ ContainsAt ys x → (x ≡ y) ⊎ ContainsAt xs y → x ≡ y
-    heads (inl e) h = sym e
-    heads (inr l) (inl e) = e
-    heads (inr l) (inr r) = absurd (order.irreflexive x (order.transitive x y x (all-has (before x) xs y p.0 r) (all-has (before y) ys x q.0 l)))
-
-    same : x ≡ y
-    same = heads (has_cases ys y x (f x (has_first xs x))) (has_cases xs x y (g y (has_first ys y)))
-
-    tail : (zs : List A) (w v : A) → v ≡ w → (z : A) → before v z → (w ≡ z) ⊎ ContainsAt zs z → ContainsAt zs z
-    tail zs w v e z b (inl i) = absurd (order.irreflexive z (subst (λ (u : A). before u z) (e ∙ i) b))
-    tail zs w v e z b (inr h) = h
+-- the rows of a listing are settled by what they list
+pub one_listing : {Q : Ruling → Type 0} {xs ys : List Ruling} → AllInRowOrder Q xs → AllInRowOrder Q ys → xs ≡ ys
+one_listing {Q} {xs} {ys} p q =
+    same_rows Precedes row_order xs ys p.in_order q.in_order
+    (λ r. (λ h. q.each r (p.only r h), λ h. p.each r (q.only r h)))
 
 module _ (m : Meaning) (ch : ℕ → ℕ) where
   pub ways_unique : (k n n' : ℕ) → Ways m ch k n → Ways m ch k n' → n ≡ n'
-  ways_unique k n n' (rows, all, e) (rows', all', e') =
-      sym e ∙ (same_length Precedes row_order rows rows' (from_places Precedes rows all.in_order) (from_places Precedes rows' all'.in_order)
-      (λ r h. all'.each r (all.only r h)) (λ r h. all.each r (all'.only r h)) ∙ e')
+  ways_unique k n n' (rows, all, e) (rows', all', e') = sym e ∙ (ap length (one_listing all all') ∙ e')
 
   effort_is_one : (e e' : ℕ) → Effort m ch e → Effort m ch e' → e ≡ e'
   effort_is_one e e' s s' =
@@ -166,7 +148,7 @@ effort_unique m ch = effort_is_one m ch
 
 -- rows in strict order that are the sets with all parts stable are the listing
 pub listing_of : (m : Meaning) (ch : ℕ → ℕ) (xs : List Points) → AllOnce (λ x. (k : ℕ) → k < 16 → PartStable m ch x k) xs →
-    (rows : List Ruling) → ByPlaces Precedes rows → ((r : Ruling) → ContainsAt rows r → ContainsAt xs (has r)) →
+    (rows : List Ruling) → StrictlyInOrder Precedes rows → ((r : Ruling) → ContainsAt rows r → ContainsAt xs (has r)) →
     ((x : Points) → ContainsAt xs x → (r : Ruling) × ContainsAt rows r × (has r ≡ x)) → AllInRowOrder (AllPartsStable m ch) rows
 listing_of m ch xs all rows strict only each =
     record {

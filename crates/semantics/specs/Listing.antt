@@ -1,10 +1,11 @@
 -- Listings: all stable rulings, chapter by chapter, and the effort of finding them.
-use Rattle.std.specs.Prelude.{◌≡◌, ℕ, zero, suc, ◌+◌, ◌*◌, ◌^◌, ◌<◌, true, cond, List, length, ◌==◌, nat_eq, slice_index_or}
+use Rattle.std.specs.Prelude.{◌≡◌, ℕ, zero, suc, ◌+◌, ◌*◌, ◌^◌, ◌<◌, true, cond, List, length, ◌==◌, nat_eq}
 use Rattle.std.specs.List.{ContainsAt}
 use Rattle.rulings.specs.Points.{Points}
 use Rattle.rulings.specs.Rulings.{has}
 use Rattle.rulings.specs.Order.{Precedes}
 use Rattle.rulings.specs.declared.ruling.Ruling.{Ruling}
+use Rattle.rows.specs.Rows.{StrictlyInOrder}
 use Rattle.semantics.specs.Meaning.{Meaning}
 use Rattle.semantics.specs.Chapters.{PartStable}
 
@@ -21,7 +22,7 @@ width m ch k = count_below m.size (λ a. nat_eq (ch a) k)
 pub record AllInRowOrder (Q : Ruling → Type 0) (rows : List Ruling) : Type 0 where
   pub only : (r : Ruling) → ContainsAt rows r → Q r
   pub each : (r : Ruling) → Q r → ContainsAt rows r
-  pub in_order : (i j : ℕ) (d : Ruling) → i < j → j < length rows → Precedes (slice_index_or rows i d) (slice_index_or rows j d)
+  pub in_order : StrictlyInOrder Precedes rows
 
 -- a ruling fills the chapters lower than k with stable parts, and has no other point
 pub record Fills (m : Meaning) (ch : ℕ → ℕ) (k : ℕ) (r : Ruling) : Type 0 where

@@ -1,6 +1,6 @@
 -- The walk that finds all stable rulings: every try in order, and the rulings that the tries complete.
-use Rattle.std.specs.Prelude.{◌≡◌, ℕ, zero, suc, ◌^◌, ◌<◌, Bool, true, false, cond, not, ◌&&◌, ◌↔◌, List, [], ◌∷◌, length, filter, ◌==◌, ◌≢◌, nat_lt, slice_index_or}
-use Rattle.std.specs.List.{ContainsAt, flat_map}
+use Rattle.std.specs.Prelude.{◌≡◌, ℕ, ◌^◌, ◌<◌, Bool, true, false, cond, not, ◌&&◌, ◌↔◌, List, [], ◌∷◌, length, filter, ◌==◌, ◌≢◌, nat_lt, slice_index_or}
+use Rattle.std.specs.List.{ContainsAt, flat_map, range_with_len}
 use Rattle.rulings.specs.Points.{Points, Part, union}
 use Rattle.rulings.specs.Rulings.{digit}
 use Rattle.semantics.specs.Meaning.{Meaning, Lawful}
@@ -19,18 +19,13 @@ spread D c a = D a && digit c (count_below a D)
 abbrev pub none : Points
 none a = false
 
--- the n numbers from c on
-abbrev pub numbers : ℕ → ℕ → List ℕ
-numbers c zero = []
-numbers c (suc n) = c ∷ numbers (suc c) n
-
 -- chapter k holds a point of the book
 abbrev pub holds : Meaning → (ℕ → ℕ) → ℕ → Bool
 holds m ch k = not (width m ch k == 0)
 
 -- the levels of the walk: the chapters that hold a point, lowest first
 unfoldable pub levels : Meaning → (ℕ → ℕ) → List ℕ
-levels m ch = filter (holds m ch) (numbers 0 16)
+levels m ch = filter (holds m ch) (range_with_len 0 16)
 
 -- a test of a part of chapter k over the lower points: whether it is stable there
 abbrev pub Test : Type 0
@@ -81,7 +76,7 @@ unfoldable pub tries : Meaning → (ℕ → ℕ) → Test → List ℕ → Point
 tries m ch test [] U = []
 tries m ch test (k ∷ ks) U =
     flat_map (λ c. try_of m ch test k ks U c ∷ cond (passes m ch test k U c) (tries m ch test ks (with_candidate m ch k U c)) [])
-    (numbers 0 (2 ^ width m ch k))
+    (range_with_len 0 (2 ^ width m ch k))
 
 -- the whole walk
 abbrev pub walk : Meaning → (ℕ → ℕ) → Test → List Try

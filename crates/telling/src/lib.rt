@@ -1,7 +1,9 @@
-// What the programs print of calls and their outcomes, and the example book.
+// What the programs print of calls and their outcomes, entries handed to a marker whole, and the example book.
 #![tactic(auto)]
 
+mod entering;
 mod example_book;
 pub mod say;
 
-pub use example_book::{Rule, example, open_example};
+pub use entering::enter;
+pub use example_book::{example, example_book_is_opened, open_example};

@@ -2,10 +2,10 @@
 use crate::masks::Mask;
 use crate::small_book::SmallBook;
 use answers::Fault;
-use books::Book;
+use books::{Book, Entry};
 use marker::Marker;
 use std::fmt;
-use telling::Rule;
+use telling::enter;
 
 // The point stands if all supporters do and no striker does.
 #[derive(Clone, Copy)]
@@ -15,10 +15,10 @@ pub(crate) struct SmallEntry {
     pub(crate) strikers: Mask,
 }
 
-// The rule as it is entered and told.
-impl From<SmallEntry> for Rule {
-    fn from(entry: SmallEntry) -> Rule {
-        Rule {
+// The entry as it is entered and told.
+impl From<SmallEntry> for Entry {
+    fn from(entry: SmallEntry) -> Entry {
+        Entry {
             point: entry.point,
             supporters: entry.supporters.into(),
             strikers: entry.strikers.into(),
@@ -60,7 +60,7 @@ impl SmallBook for SmallRuleBook {
 
     fn enter_into<B: Book>(&self, marker: &mut Marker<B>) -> Result<(), Fault> {
         for entry in &self.entries {
-            Rule::from(*entry).enter_into(marker)?;
+            enter(marker, Entry::from(*entry))?;
         }
         Ok(())
     }
@@ -71,8 +71,8 @@ impl fmt::Display for SmallRuleBook {
         let size = self.size;
         write!(f, "rule book of size {size}")?;
         for entry in &self.entries {
-            let rule = Rule::from(*entry);
-            write!(f, "; {rule}")?;
+            let entry = Entry::from(*entry);
+            write!(f, "; {entry}")?;
         }
         Ok(())
     }

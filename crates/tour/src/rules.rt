@@ -2,14 +2,14 @@
 use books::{Book, RuleBook};
 use marker::Marker;
 use std::io;
-use telling::{example, say};
+use telling::{enter, example, say};
 
 pub(crate) fn judge(rt: &impl Print) -> io::Result<()> {
     say::title(rt, "The example book of four points")?;
     let mut marker = Marker::new(RuleBook::new());
     say::outcome(rt, "open a book of 4 points", marker.open(4))?;
-    for rule in example() {
-        say::outcome(rt, rule, rule.enter_into(&mut marker))?;
+    for entry in example() {
+        say::outcome(rt, entry, enter(&mut marker, entry))?;
     }
     say::title(rt, "Judging rulings by the whole book")?;
     say::judge(rt, &marker, &[1])?;

@@ -1,17 +1,17 @@
 -- Verdicts by computing.
 use Rattle.std.proofs.Common.{◌≡◌, ℕ, Bool, true, false, not, ◌&&◌, ltb, leb, List, Some, None, Ok, Err, Option, Result, sym, refl, ap, ◌∙◌, subst, ap₂, inl, inr, arith, ltb-true, leb-true}
 use mathlib.Core.Bool.{xor}
-use Rattle.std.proofs.lemmas.Bool.{cases_order, not-true}
+use Rattle.std.proofs.lemmas.Bool.{cases_order, not-true, and_parts, false_from_ne_true}
 use Rattle.rulings.specs.Points.{Points, Lowest, listed}
 use Rattle.rulings.specs.Rulings.{has}
 use Rattle.semantics.specs.Meaning.{Meaning, Lawful}
 use Rattle.semantics.specs.Closure.{IsClosure}
 use Rattle.semantics.specs.Chapters.{in_chapter, below_chapter, Fit, chapter, PartStable}
-use Rattle.semantics.proofs.Tests.{false_is_not_true, and_both, not_true}
+use Rattle.semantics.proofs.Tests.{false_is_not_true}
 use Rattle.semantics.proofs.Closures.{unique}
 use Rattle.semantics.proofs.Splitting.{chapter_lawful}
 use Rattle.semantics.proofs.StableTest.{stable_test, stable_test_tells}
-use Rattle.books.specs.Promise.{stray}
+use Rattle.answers.specs.Checks.{stray}
 use Rattle.books.specs.Entries.{every_below}
 use Rattle.books.specs.EntriesLemmas.{every_below_use}
 use Rattle.answers.specs.declared.fault.Fault.{Fault}
@@ -19,10 +19,11 @@ use Rattle.answers.specs.declared.verdict.Verdict.{Verdict}
 use Rattle.answers.specs.declared.verdict.ChapterVerdict.{ChapterVerdict}
 use Rattle.answers.specs.declared.verdict.Verdict.TheVariants.{Stable, Unfounded, Missing}
 use Rattle.answers.specs.Verdicts.{is_stable}
+use Rattle.chapters.proofs.Upward.{fitting}
 use Rattle.marker.specs.Judging.{Compares, Judged, PartVerdict, ByChapter, JudgedByChapter}
 use Rattle.marker.proofs.Verdicts.{unstable, stable_verdict}
-use Rattle.worked.specs.Answers.{Judges, JudgesByChapter}
-use Rattle.worked.proofs.Once.{fitting, verdict_once}
+use Rattle.worked.specs.Answers.{GivesVerdict, GivesVerdictByChapter}
+use Rattle.worked.proofs.Once.{verdict_once}
 use Rattle.worked.proofs.Checks.{Within, within, within_use, closes, closes_use, fits, fits_use}
 
 -- a is the lowest point on which the two sets differ
@@ -31,7 +32,7 @@ differ_first y X a = xor (y a) (X a) && every_below a (λ b. not (xor (y b) (X b
 
 differ_first_use : (y X : Points) (a : ℕ) → differ_first y X a ≡ true → Lowest (λ b. xor (y b) (X b)) (Some a)
 differ_first_use y X a h =
-    let p = and_both (xor (y a) (X a)) _ h in
+    let p = and_parts (xor (y a) (X a)) _ h in
     (p.0, λ b l. not-true (xor (y b) (X b)) (every_below_use a (λ c. not (xor (y c) (X c))) p.1 b l))
 
 -- the verdict, other than stable, on y beside its closure X
@@ -42,8 +43,8 @@ compares y X (Missing a) = differ_first y X a && X a
 
 compares_use : (y X : Points) (v : Verdict) → compares y X v ≡ true → Compares y X v
 compares_use y X Stable h = false_is_not_true h
-compares_use y X (Unfounded a) h = let p = and_both (differ_first y X a) (y a) h in (differ_first_use y X a p.0, p.1)
-compares_use y X (Missing a) h = let p = and_both (differ_first y X a) (X a) h in (differ_first_use y X a p.0, p.1)
+compares_use y X (Unfounded a) h = let p = and_parts (differ_first y X a) (y a) h in (differ_first_use y X a p.0, p.1)
+compares_use y X (Missing a) h = let p = and_parts (differ_first y X a) (X a) h in (differ_first_use y X a p.0, p.1)
 
 compares_unstable : (y X : Points) (v : Verdict) → compares y X v ≡ true → is_stable v ≡ false
 compares_unstable y X Stable h = false_is_not_true h
@@ -52,7 +53,7 @@ compares_unstable y X (Missing a) h = refl
 
 no_stray : (n : ℕ) (x : Points) → Within n x → Lowest (stray n x) None
 no_stray n x p a =
-    not_true (leb n a && x a) (λ h. let q = and_both (leb n a) (x a) h in
+    false_from_ne_true (leb n a && x a) (λ h. let q = and_parts (leb n a) (x a) h in
     let i = p a q.1 in let j = leb-true n a q.0 in absurd (omega arith))
 
 module _ (m : Meaning) (points X : List ℕ) (v : Verdict) where
@@ -63,12 +64,12 @@ module _ (m : Meaning) (points X : List ℕ) (v : Verdict) where
 
   judge_compares : judge_check ≡ true → compares (listed points) (listed X) v ≡ true
   judge_compares h =
-      let p = and_both (within m.size points) _ h in
-      let q = and_both (within m.size X) _ p.1 in
-      (and_both (closes m (listed points) (listed X)) _ q.1).1
+      let p = and_parts (within m.size points) _ h in
+      let q = and_parts (within m.size X) _ p.1 in
+      (and_parts (closes m (listed points) (listed X)) _ q.1).1
 
-  pub judges : Lawful m → judge_check ≡ true → Judges m points v
-  unfolding Judges
+  pub judges : Lawful m → judge_check ≡ true → GivesVerdict m points v
+  unfolding GivesVerdict
   judges l h y e r = (only r, λ is. subst (Judged m y) (sym is) there)
     where
       Said : Points → Type 0
@@ -76,9 +77,9 @@ module _ (m : Meaning) (points X : List ℕ) (v : Verdict) where
 
       said : Said (listed points)
       said =
-          let p = and_both (within m.size points) _ h in
-          let q = and_both (within m.size X) _ p.1 in
-          let s = and_both (closes m (listed points) (listed X)) _ q.1 in (
+          let p = and_parts (within m.size points) _ h in
+          let q = and_parts (within m.size X) _ p.1 in
+          let s = and_parts (closes m (listed points) (listed X)) _ q.1 in (
             no_stray m.size (listed points) (within_use m.size points p.0),
             (
               listed X,
@@ -114,8 +115,8 @@ module _ (m : Meaning) (ch : ℕ → ℕ) (points : List ℕ) (k : ℕ) (X : Lis
       within m.size points && (within m.size X && (fits m ch && (ltb k 16 &&
       (every_below k (λ j. stable_test m ch j (below_chapter ch j (listed points)) (in_chapter ch j (listed points))) && part_check))))
 
-  pub judges_by_chapter : Lawful m → chapter_check ≡ true → JudgesByChapter m ch points v k
-  unfolding JudgesByChapter
+  pub judges_by_chapter : Lawful m → chapter_check ≡ true → GivesVerdictByChapter m ch points v k
+  unfolding GivesVerdictByChapter
   judges_by_chapter l h y e r = (only r, λ is. subst (JudgedByChapter m ch y) (sym is) there)
     where
       Said : Points → Type 0
@@ -123,12 +124,12 @@ module _ (m : Meaning) (ch : ℕ → ℕ) (points : List ℕ) (k : ℕ) (X : Lis
 
       said : Said (listed points)
       said =
-          let p = and_both (within m.size points) _ h in
-          let q = and_both (within m.size X) _ p.1 in
-          let f = and_both (fits m ch) _ q.1 in
-          let low = and_both (ltb k 16) _ f.1 in
-          let s = and_both (every_below k (λ j. stable_test m ch j (below_chapter ch j (listed points)) (in_chapter ch j (listed points)))) _ low.1 in
-          let t = and_both (closes chapter_at (in_chapter ch k (listed points)) (listed X)) _ s.1 in (
+          let p = and_parts (within m.size points) _ h in
+          let q = and_parts (within m.size X) _ p.1 in
+          let f = and_parts (fits m ch) _ q.1 in
+          let low = and_parts (ltb k 16) _ f.1 in
+          let s = and_parts (every_below k (λ j. stable_test m ch j (below_chapter ch j (listed points)) (in_chapter ch j (listed points)))) _ low.1 in
+          let t = and_parts (closes chapter_at (in_chapter ch k (listed points)) (listed X)) _ s.1 in (
             no_stray m.size (listed points) (within_use m.size points p.0),
             fits_use m l ch f.0,
             (

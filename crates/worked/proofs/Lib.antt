@@ -1,10 +1,11 @@
 -- Worked books by computing: checks, what written books mean, and what a check says of an answer.
 mod Checks
-mod Written
 mod Standing
+mod Written
 mod Once
 mod Judging
 mod Reading
 mod Listing
 mod Auditing
+mod NewMarkers
 mod Results

@@ -1,17 +1,18 @@
 -- Readings by computing.
 use Rattle.std.proofs.Common.{◌≡◌, ℕ, ◌<◌, Bool, true, ◌&&◌, List, [], ◌∷◌, Ok, Err, sym, refl, subst, subst₂}
+use Rattle.std.proofs.lemmas.Bool.{and_parts}
 use Rattle.rulings.specs.Points.{Points, listed}
 use Rattle.rulings.specs.Rulings.{has}
 use Rattle.semantics.specs.Meaning.{Meaning, Lawful}
 use Rattle.semantics.specs.Chapters.{Fit, Sixteen}
 use Rattle.semantics.specs.WellFounded.{WellFounded, PartRead}
-use Rattle.semantics.proofs.Tests.{false_is_not_true, and_both}
+use Rattle.semantics.proofs.Tests.{false_is_not_true}
 use Rattle.semantics.proofs.Alternating.{WithinPrefixpoints, within_prefixpoints_step, least_pair_of, least_pair_unique}
 use Rattle.semantics.proofs.SplitReading.{well_founded_splits}
 use Rattle.books.specs.Promise.{Outcome}
+use Rattle.chapters.proofs.Upward.{fitting}
 use Rattle.marker.specs.Reading.{ReadInto}
-use Rattle.worked.specs.Answers.{Reads}
-use Rattle.worked.proofs.Once.{fitting}
+use Rattle.worked.specs.Answers.{GivesReading}
 use Rattle.worked.proofs.Checks.{within, within_use, closes, closes_use, fits, fits_use}
 
 -- P is the closure of S
@@ -31,10 +32,10 @@ module _ (m : Meaning) (l : Lawful m) where
   climbs_use : (S : List ℕ) (ts : List (List ℕ × List ℕ)) → WithinPrefixpoints m m (listed S) → climbs m S ts ≡ true → WithinPrefixpoints m m (listed (climbed S ts))
   climbs_use S [] w h = w
   climbs_use S (t ∷ ts) w h =
-      let p = and_both (closes_to m S t.0) _ h in
-      let q = and_both (closes_to m t.0 t.1) _ p.1 in
-      let c = and_both (within m.size t.0) _ p.0 in
-      let d = and_both (within m.size t.1) _ q.0 in
+      let p = and_parts (closes_to m S t.0) _ h in
+      let q = and_parts (closes_to m t.0 t.1) _ p.1 in
+      let c = and_parts (within m.size t.0) _ p.0 in
+      let d = and_parts (within m.size t.1) _ q.0 in
       climbs_use t.1 ts
       (within_prefixpoints_step m m l l (listed S) (listed t.0) (listed t.1) w
       (closes_use m l (listed S) (listed t.0) (within_use m.size t.0 c.0) c.1)
@@ -47,8 +48,8 @@ module _ (m : Meaning) (ch : ℕ → ℕ) (turns : List (List ℕ × List ℕ)) 
   read_check =
       fits m ch && (climbs m [] turns && (closes_to m (climbed [] turns) possible && closes_to m possible (climbed [] turns)))
 
-  pub reads : Lawful m → Sixteen ch → read_check ≡ true → Reads m ch (climbed [] turns) possible
-  unfolding Reads
+  pub reads : Lawful m → Sixteen ch → read_check ≡ true → GivesReading m ch (climbed [] turns) possible
+  unfolding GivesReading
   reads l few h s p s' p' r = (only r, there)
     where
       sure : List ℕ
@@ -58,19 +59,19 @@ module _ (m : Meaning) (ch : ℕ → ℕ) (turns : List (List ℕ × List ℕ)) 
       Said S P = Fit m ch × WellFounded m S P × ((k : ℕ) → k < 16 → PartRead m ch S P k)
 
       fitted : (fits m ch ≡ true) × (climbs m [] turns && (closes_to m sure possible && closes_to m possible sure) ≡ true)
-      fitted = and_both (fits m ch) _ h
+      fitted = and_parts (fits m ch) _ h
 
       climbing : (climbs m [] turns ≡ true) × (closes_to m sure possible && closes_to m possible sure ≡ true)
-      climbing = and_both (climbs m [] turns) _ fitted.1
+      climbing = and_parts (climbs m [] turns) _ fitted.1
 
       pair : (closes_to m sure possible ≡ true) × (closes_to m possible sure ≡ true)
-      pair = and_both (closes_to m sure possible) _ climbing.1
+      pair = and_parts (closes_to m sure possible) _ climbing.1
 
       to_possible : (within m.size possible ≡ true) × (closes m (listed sure) (listed possible) ≡ true)
-      to_possible = and_both (within m.size possible) _ pair.0
+      to_possible = and_parts (within m.size possible) _ pair.0
 
       to_sure : (within m.size sure ≡ true) × (closes m (listed possible) (listed sure) ≡ true)
-      to_sure = and_both (within m.size sure) _ pair.1
+      to_sure = and_parts (within m.size sure) _ pair.1
 
       founded : WellFounded m (listed sure) (listed possible)
       founded =

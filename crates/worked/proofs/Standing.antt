@@ -1,20 +1,21 @@
 -- There are books that are so written, and tables of chapters.
-use Rattle.std.specs.List.{list_all}
+use Rattle.std.specs.List.{list_all, AllZip, range_with_len}
 use Rattle.std.proofs.Common.{◌≡◌, ℕ, ◌-◌, ◌<◌, ◌≤◌, Bool, true, false, cond, ◌&&◌, eqb, ltb, leb, ◌⊎◌, List, [], ◌∷◌, ◌++◌, map, length, get_or, slice_index_or, Option, Some, None, is_some, replicate, sym, refl, ap, ◌∙◌, inl, inr, arith, ltb-true, le-ltb, lt-ltb, eqb-true, leb-true}
 use mathlib.Core.Path.{fun_ext}
-use Rattle.std.proofs.lemmas.List.{length-map, get_or-map, get_or_past, get_or_append_left, get_or-append_right, get_or-replicate}
-use Rattle.std.proofs.lemmas.Bool.{cases_lt}
+use Rattle.std.proofs.lemmas.List.FromFn.{length-map-range_with_len, get_or-map-range_with_len}
+use Rattle.std.proofs.lemmas.List.{length-map, get_or_past, get_or_append_left, get_or-append_right, get_or-replicate}
+use Rattle.std.proofs.Math.Bool.{and-true, and-false}
+use Rattle.std.proofs.lemmas.Bool.{cases_lt, and_parts, or_cases, false_from_ne_true}
 use Rattle.std.proofs.lemmas.List.Sums.{AllPass-from_list_all}
 use Rattle.std.proofs.lemmas.List.Elements.{All-map}
 use Rattle.std.specs.Option.{option_map_or}
 use Rattle.rulings.specs.Points.{Points, listed}
 use Rattle.rulings.specs.Rulings.{has}
 use Rattle.rulings.specs.declared.ruling.Ruling.{Ruling}
-use Rattle.semantics.specs.Walk.{numbers}
-use Rattle.semantics.proofs.Tests.{false_is_not_true, and_both, or_split, not_true}
-use Rattle.semantics.proofs.Joined.{length_numbers, get_or_numbers}
-use Rattle.semantics.proofs.RulingOf.{ruling_of, ruling_of_same}
-use Rattle.books.specs.declared.table.Entry.{Entry}
+use Rattle.rulings.proofs.Bytes.{has_past}
+use Rattle.semantics.proofs.Tests.{false_is_not_true}
+use Rattle.semantics.proofs.RulingOf.{ruling_of, ruling_of_has, ruling_of_same}
+use Rattle.books.specs.declared.entry.Entry.{Entry}
 use Rattle.books.specs.declared.rule_book.RuleBook.{RuleBook}
 use Rattle.books.specs.declared.protesters.Protesters.{Protesters as Rows}
 use Rattle.books.specs.declared.protest_book.ProtestBook.{ProtestBook}
@@ -22,12 +23,17 @@ use Rattle.books.specs.Entries.{names}
 use Rattle.books.specs.RuleBook.{entry}
 use Rattle.books.specs.Protesters.{row, is_lodged, protesters_of}
 use Rattle.chapters.specs.Table.{chapter_of}
-use Rattle.worked.specs.Books.{Line, Is, Are, Rules, protested, Protests, chapters, TablesPlace}
+use Rattle.books.specs.Lines.{Line, Says}
+use Rattle.worked.specs.Books.{Rules, protested, Protests, chapters, TablesPlace}
 use Rattle.worked.proofs.Checks.{within, within_use}
 
--- the ruling of a list of points below n, where n is at most 128
-pointed : (n : ℕ) → n ≤ 128 → (ps : List ℕ) → within n ps ≡ true → has (ruling_of (listed ps)) ≡ listed ps
-pointed n most ps h = ruling_of_same (listed ps) (λ a e. let i = within_use n ps h a e in omega arith)
+-- the ruling of a set has its points below 128
+pointed : (x : Points) (a : ℕ) → has (ruling_of x) a ≡ x a && ltb a 128
+pointed x a =
+    elim (cases_lt a 128) [
+      | inl l ↦ rw (lt-ltb a 128 l, and-true (x a)) (ruling_of_has x a l)
+      | inr l ↦ rw (le-ltb a 128 l, and-false (x a)) (has_past (ruling_of x) a l)
+    ]
 
 -- ---- rules
 
@@ -40,37 +46,35 @@ rules_inside n ls = leb 1 n && (leb n 128 && (leb (length ls) 256 && list_all (l
 entry_of : Line → Entry
 entry_of l = entry l.point (ruling_of (listed l.supporters)) (ruling_of (listed l.strikers))
 
+entry_says : (l : Line) → Says (entry_of l) l
+unfolding entry_of
+entry_says l = record { point = refl; supporters = pointed (listed l.supporters); strikers = pointed (listed l.strikers) }
+
 -- one line that is inside, and its entry
-module _ (n : ℕ) (most : n ≤ 128) (l : Line) (inside : line_inside n l ≡ true) where
+module _ (n : ℕ) (l : Line) (inside : line_inside n l ≡ true) where
   entry_low : (entry_of l).point < n
   unfolding entry_of
-  entry_low = ltb-true l.point n (and_both (ltb l.point n) _ inside).0
+  entry_low = ltb-true l.point n (and_parts (ltb l.point n) _ inside).0
 
-  within_both : (within n l.supporters ≡ true) × (within n l.strikers ≡ true)
-  within_both = and_both (within n l.supporters) _ (and_both (ltb l.point n) _ inside).1
-
-  entry_is : Is (entry_of l) l
-  unfolding entry_of
-  entry_is = record { point = refl; supporters = pointed n most l.supporters within_both.0; strikers = pointed n most l.strikers within_both.1 }
+  pub within_both : (within n l.supporters ≡ true) × (within n l.strikers ≡ true)
+  within_both = and_parts (within n l.supporters) _ (and_parts (ltb l.point n) _ inside).1
 
   names_inside : (b : ℕ) → names (entry_of l) b ≡ true → b < n
   unfolding entry_of
-  names_inside b h = elim (or_split (has (ruling_of (listed l.supporters)) b) _ h) [
-    | inl e ↦ within_use n l.supporters within_both.0 b (sym (ap (λ (x : Points). x b) entry_is.supporters) ∙ e)
-    | inr e ↦ within_use n l.strikers within_both.1 b (sym (ap (λ (x : Points). x b) entry_is.strikers) ∙ e)
+  names_inside b h = elim (or_cases (has (ruling_of (listed l.supporters)) b) _ h) [
+    | inl e ↦ within_use n l.supporters within_both.0 b (and_parts _ _ (sym (pointed (listed l.supporters) b) ∙ e)).0
+    | inr e ↦ within_use n l.strikers within_both.1 b (and_parts _ _ (sym (pointed (listed l.strikers) b) ∙ e)).0
   ]
 
-entries_are : (n : ℕ) → n ≤ 128 → (ls : List Line) → list_all (line_inside n) ls ≡ true → Are (map entry_of ls) ls
-entries_are n most [] h = tt
-entries_are n most (l ∷ ls) h =
-    let p = and_both (line_inside n l) _ h in
-    (entry_is n most l p.0, entries_are n most ls p.1)
+entries_say : (ls : List Line) → AllZip Says (map entry_of ls) ls
+entries_say [] = tt
+entries_say (l ∷ ls) = (entry_says l, entries_say ls)
 
 pub some_rules : (n : ℕ) (ls : List Line) → rules_inside n ls ≡ true → (b : RuleBook) × Rules n ls b
 some_rules n ls h =
-    let p = and_both (leb 1 n) _ h in
-    let q = and_both (leb n 128) _ p.1 in
-    let r = and_both (leb (length ls) 256) _ q.1 in
+    let p = and_parts (leb 1 n) _ h in
+    let q = and_parts (leb n 128) _ p.1 in
+    let r = and_parts (leb (length ls) 256) _ q.1 in
     let inside = r.1 in
     let each = AllPass-from_list_all (line_inside n) ls inside in
     let most = leb-true n 128 q.0 in (
@@ -80,10 +84,10 @@ some_rules n ls h =
         least = leb-true 1 n p.0;
         most = most;
         room = omega (arith, length-map ls entry_of, leb-true (length ls) 256 r.0);
-        heads = All-map (λ (e : Entry). e.point < n) entry_of ls (λ k l i. entry_low n most (slice_index_or ls k l) (each k l i));
-        bodies = All-map (λ (e : Entry). (b : ℕ) → names e b ≡ true → b < n) entry_of ls (λ k l i. names_inside n most (slice_index_or ls k l) (each k l i));
+        heads = All-map (λ (e : Entry). e.point < n) entry_of ls (λ k l i. entry_low n (slice_index_or ls k l) (each k l i));
+        bodies = All-map (λ (e : Entry). (b : ℕ) → names e b ≡ true → b < n) entry_of ls (λ k l i. names_inside n (slice_index_or ls k l) (each k l i));
       },
-      record { sized = refl; written = entries_are n most ls inside },
+      record { sized = refl; written = entries_say ls },
     )
 
 -- ---- protests
@@ -98,15 +102,15 @@ protests_inside n points pairs = leb 1 n && (leb n 128 && (within n points && li
 protested_inside : (n : ℕ) (points : List ℕ) (pairs : List (ℕ × ℕ)) → list_all (protest_inside n points) pairs ≡ true →
     (a c : ℕ) → protested pairs a c ≡ true → (listed points a ≡ true) × (c < n)
 protested_inside n points [] h a c e = false_is_not_true e
-protested_inside n points (p ∷ ps) h a c e = go (and_both (protest_inside n points p) _ h) (or_split (eqb c p.0 && eqb a p.1) _ e) (protested_inside n points ps)
+protested_inside n points (p ∷ ps) h a c e = go (and_parts (protest_inside n points p) _ h) (or_cases (eqb c p.0 && eqb a p.1) _ e) (protested_inside n points ps)
   where
     go : (protest_inside n points p ≡ true) × (list_all (protest_inside n points) ps ≡ true) →
         (eqb c p.0 && eqb a p.1 ≡ true) ⊎ (protested ps a c ≡ true) →
         (list_all (protest_inside n points) ps ≡ true → (a c : ℕ) → protested ps a c ≡ true → (listed points a ≡ true) × (c < n)) →
         (listed points a ≡ true) × (c < n)
     go q (inl s) ih =
-        let both = and_both (ltb p.0 n) _ q.0 in
-        let at = and_both (eqb c p.0) _ s in
+        let both = and_parts (ltb p.0 n) _ q.0 in
+        let at = and_parts (eqb c p.0) _ s in
         let by : c ≡ p.0 = eqb-true c p.0 at.0 in
         let below = ltb-true p.0 n both.0 in
         (ap (listed points) (eqb-true a p.1 at.1) ∙ both.1, omega arith)
@@ -117,7 +121,7 @@ row_of : List ℕ → List (ℕ × ℕ) → ℕ → Option Ruling
 row_of points pairs a = cond (listed points a) (Some (ruling_of (protested pairs a))) None
 
 rows_of : List ℕ → List (ℕ × ℕ) → Rows
-rows_of points pairs = record { rows = map (row_of points pairs) (numbers 0 128) }
+rows_of points pairs = record { rows = map (row_of points pairs) (range_with_len 0 128) }
 
 module _ (n : ℕ) (most : n ≤ 128) (points : List ℕ) (low : within n points ≡ true) (pairs : List (ℕ × ℕ))
     (inside : list_all (protest_inside n points) pairs ≡ true) where
@@ -127,15 +131,13 @@ module _ (n : ℕ) (most : n ≤ 128) (points : List ℕ) (low : within n points
   row_is a = elim (cases_lt a 128) [ inl l ↦ here l | inr l ↦ past l ]
     where
       here : a < 128 → row (rows_of points pairs) a ≡ row_of points pairs a
-      here l =
-          get_or-map (row_of points pairs) (numbers 0 128) a 0 None (omega (arith, length_numbers 0 128))
-          ∙ ap (row_of points pairs) (get_or_numbers 0 128 a 0 l ∙ omega arith)
+      here l = get_or-map-range_with_len (row_of points pairs) 0 128 a a None l (omega arith)
 
       past : 128 ≤ a → row (rows_of points pairs) a ≡ row_of points pairs a
       past l =
-          get_or_past (map (row_of points pairs) (numbers 0 128)) a None (omega (arith, length-map (numbers 0 128) (row_of points pairs), length_numbers 0 128))
+          get_or_past (map (row_of points pairs) (range_with_len 0 128)) a None (omega (arith, length-map-range_with_len (row_of points pairs) 0 128))
           ∙ sym (ap (λ (t : Bool). cond t (Some (ruling_of (protested pairs a))) None)
-          (not_true (listed points a) (λ e. let i = within_use n points low a e in absurd (omega arith))))
+          (false_from_ne_true (listed points a) (λ e. let i = within_use n points low a e in absurd (omega arith))))
 
   lodging_is : is_lodged (rows_of points pairs) ≡ listed points
   unfolding row_of
@@ -154,13 +156,13 @@ module _ (n : ℕ) (most : n ≤ 128) (points : List ℕ) (low : within n points
 
       among : (t : Bool) → listed points a ≡ t → option_map_or has (cond t (Some (ruling_of (protested pairs a))) None) (λ _. false) c ≡ protested pairs a c
       among true e = ap (λ (x : Points). x c) is
-      among false e = sym (not_true (protested pairs a c) (λ h. false_is_not_true (sym e ∙ (protested_inside n points pairs inside a c h).0)))
+      among false e = sym (false_from_ne_true (protested pairs a c) (λ h. false_is_not_true (sym e ∙ (protested_inside n points pairs inside a c h).0)))
 
 pub some_protests : (n : ℕ) (points : List ℕ) (pairs : List (ℕ × ℕ)) → protests_inside n points pairs ≡ true → (b : ProtestBook) × Protests n points pairs b
 some_protests n points pairs h =
-    let p = and_both (leb 1 n) _ h in
-    let q = and_both (leb n 128) _ p.1 in
-    let r = and_both (within n points) _ q.1 in
+    let p = and_parts (leb 1 n) _ h in
+    let q = and_parts (leb n 128) _ p.1 in
+    let r = and_parts (within n points) _ q.1 in
     let most = leb-true n 128 q.0 in
     let lodging = lodging_is n most points r.0 pairs r.1 in
     let protests = protests_are n most points r.0 pairs r.1 in (

@@ -18,8 +18,8 @@ use Rattle.marker.specs.Audit.{Audited}
 
 -- a listing into rows enough, whatever they held, answers these sets of points, in this order, and this effort,
 -- and leaves the later rows as found
-unfoldable pub Lists : Meaning → (ℕ → ℕ) → List (List ℕ) → ℕ → Type 0
-Lists m ch sets effort =
+unfoldable pub GivesListing : Meaning → (ℕ → ℕ) → List (List ℕ) → ℕ → Type 0
+GivesListing m ch sets effort =
     (found left : List Ruling) → length sets ≤ length found → length left ≡ length found →
     (r : Result Listing Fault) → Listed m ch found r left
     ↔ ((r ≡ Ok (record { rows = length sets; effort = effort }))
@@ -32,24 +32,24 @@ RefusesListing m ch f =
     (found left : List Ruling) (r : Result Listing Fault) → Listed m ch found r left ↔ ((r ≡ Err f) × (left ≡ found))
 
 -- a reading answers these points as sure and these as possible, whatever the two places held
-unfoldable pub Reads : Meaning → (ℕ → ℕ) → List ℕ → List ℕ → Type 0
-Reads m ch sure possible =
+unfoldable pub GivesReading : Meaning → (ℕ → ℕ) → List ℕ → List ℕ → Type 0
+GivesReading m ch sure possible =
     (s p s' p' : Ruling) (r : Outcome) → ReadInto m ch r s p s' p'
     ↔ ((r ≡ Ok tt) × (has s' ≡ listed sure) × (has p' ≡ listed possible))
 
 -- the ruling of these points is given this verdict
-unfoldable pub Judges : Meaning → List ℕ → Verdict → Type 0
-Judges m points v = (y : Ruling) → has y ≡ listed points → (r : Result Verdict Fault) → Judged m y r ↔ (r ≡ Ok v)
+unfoldable pub GivesVerdict : Meaning → List ℕ → Verdict → Type 0
+GivesVerdict m points v = (y : Ruling) → has y ≡ listed points → (r : Result Verdict Fault) → Judged m y r ↔ (r ≡ Ok v)
 
 -- by chapters, the ruling of these points is given this verdict, in this chapter
-unfoldable pub JudgesByChapter : Meaning → (ℕ → ℕ) → List ℕ → Verdict → ℕ → Type 0
-JudgesByChapter m ch points v k =
+unfoldable pub GivesVerdictByChapter : Meaning → (ℕ → ℕ) → List ℕ → Verdict → ℕ → Type 0
+GivesVerdictByChapter m ch points v k =
     (y : Ruling) → has y ≡ listed points →
     (r : Result ChapterVerdict Fault) → JudgedByChapter m ch y r ↔ (r ≡ Ok (record { verdict = v; chapter = Some k }))
 
 -- an audit into rows enough, whatever they held, answers these rows and leaves the later rows as found
-unfoldable pub Audits : Meaning → (ℕ → ℕ) → List UpwardReading → Type 0
-Audits m ch rows =
+unfoldable pub GivesAudit : Meaning → (ℕ → ℕ) → List UpwardReading → Type 0
+GivesAudit m ch rows =
     (found left : List UpwardReading) → length rows ≤ length found → length left ≡ length found →
     (r : Result ℕ Fault) → Audited m ch found r left
     ↔ ((r ≡ Ok (length rows)) × (take (length rows) left ≡ rows) × (drop (length rows) left ≡ drop (length rows) found))

@@ -6,8 +6,12 @@ use Rattle.answers.specs.declared.fault.Layer.TheVariants as layer
 use Rattle.answers.specs.declared.fault.Fault.{Fault}
 use Rattle.answers.specs.declared.verdict.Verdict.TheVariants.{Unfounded, Missing}
 use Rattle.answers.specs.Faults.{number, places, layer_number, fault_of}
-use Rattle.worked.specs.Books.{line, OfRules, OfProtests, chapters, TablesPlace}
-use Rattle.worked.specs.Answers.{Lists, RefusesListing, Reads, Judges, JudgesByChapter, Audits}
+use Rattle.books.specs.Lines.{line}
+use Rattle.books.specs.RuleBook.{meaning_of}
+use Rattle.books.specs.ProtestBook.{protest_meaning}
+use Rattle.marker.specs.State.{book_of, placing}
+use Rattle.worked.specs.Books.{OfEach, OfRules, OfProtests, NewOverRules, NewOverProtests, chapters, TablesPlace}
+use Rattle.worked.specs.Answers.{GivesListing, RefusesListing, GivesReading, GivesVerdict, GivesVerdictByChapter, GivesAudit}
 
 -- every point in chapter 0
 abbrev pub one_chapter : ℕ → ℕ
@@ -49,33 +53,33 @@ pub record Worked : Type 0 where
   -- the chapters written down are those of a marker's table
   pub tables_place : TablesPlace
   -- the example has the stable rulings {1} and {0, 2, 3}; to list them takes 12 tries in its three chapters, and 16 with all points in one
-  pub example_lists : Example (λ m. Lists m example_chapters ((1 ∷ []) ∷ (0 ∷ 2 ∷ 3 ∷ []) ∷ []) 12)
-  pub example_lists_in_one_chapter : Example (λ m. Lists m one_chapter ((1 ∷ []) ∷ (0 ∷ 2 ∷ 3 ∷ []) ∷ []) 16)
+  pub example_lists : Example (λ m. GivesListing m example_chapters ((1 ∷ []) ∷ (0 ∷ 2 ∷ 3 ∷ []) ∷ []) 12)
+  pub example_lists_in_one_chapter : Example (λ m. GivesListing m one_chapter ((1 ∷ []) ∷ (0 ∷ 2 ∷ 3 ∷ []) ∷ []) 16)
   -- nothing is sure, and all is possible
-  pub example_reads : Example (λ m. Reads m example_chapters [] (0 ∷ 1 ∷ 2 ∷ 3 ∷ []))
+  pub example_reads : Example (λ m. GivesReading m example_chapters [] (0 ∷ 1 ∷ 2 ∷ 3 ∷ []))
   -- {0, 2} is missing 3, which lies in chapter 2; {0, 1} is unfounded at 0
-  pub example_misses_3 : Example (λ m. Judges m (0 ∷ 2 ∷ []) (Missing 3))
-  pub example_misses_3_in_chapter_2 : Example (λ m. JudgesByChapter m example_chapters (0 ∷ 2 ∷ []) (Missing 3) 2)
-  pub example_unfounded : Example (λ m. Judges m (0 ∷ 1 ∷ []) (Unfounded 0))
+  pub example_misses_3 : Example (λ m. GivesVerdict m (0 ∷ 2 ∷ []) (Missing 3))
+  pub example_misses_3_in_chapter_2 : Example (λ m. GivesVerdictByChapter m example_chapters (0 ∷ 2 ∷ []) (Missing 3) 2)
+  pub example_unfounded : Example (λ m. GivesVerdict m (0 ∷ 1 ∷ []) (Unfounded 0))
   -- two points that support only one another: the empty ruling alone is stable
-  pub circle_lists : Circle (λ m. Lists m one_chapter ([] ∷ []) 4)
-  pub circle_unfounded : Circle (λ m. Judges m (0 ∷ 1 ∷ []) (Unfounded 0))
+  pub circle_lists : Circle (λ m. GivesListing m one_chapter ([] ∷ []) 4)
+  pub circle_unfounded : Circle (λ m. GivesVerdict m (0 ∷ 1 ∷ []) (Unfounded 0))
   -- a point that stands if it does not: no ruling is stable, and the point is undecided
-  pub paradox_lists : Paradox (λ m. Lists m one_chapter [] 2)
-  pub paradox_reads : Paradox (λ m. Reads m one_chapter [] (0 ∷ []))
+  pub paradox_lists : Paradox (λ m. GivesListing m one_chapter [] 2)
+  pub paradox_reads : Paradox (λ m. GivesReading m one_chapter [] (0 ∷ []))
   -- the verdict of the book read whole names the lowest point, 0; that by chapters, with 1 below 0, the lowest chapter's
-  pub one_rule_unfounded : OneRule (λ m. Judges m (0 ∷ 1 ∷ []) (Unfounded 0))
-  pub one_rule_unfounded_by_chapter : OneRule (λ m. JudgesByChapter m (chapters (1 ∷ 0 ∷ [])) (0 ∷ 1 ∷ []) (Unfounded 1) 0)
+  pub one_rule_unfounded : OneRule (λ m. GivesVerdict m (0 ∷ 1 ∷ []) (Unfounded 0))
+  pub one_rule_unfounded_by_chapter : OneRule (λ m. GivesVerdictByChapter m (chapters (1 ∷ 0 ∷ [])) (0 ∷ 1 ∷ []) (Unfounded 1) 0)
   -- with the chapters exchanged, 0 reads upward: a listing is refused, and an audit finds the one reading, of a drop of 1
   pub one_rule_refused : OneRule (λ m. RefusesListing m (chapters (0 ∷ 1 ∷ [])) upward_fault)
-  pub one_rule_audited : OneRule (λ m. Audits m (chapters (0 ∷ 1 ∷ [])) (record { drop = 1; reader = 0; read = 1 } ∷ []))
+  pub one_rule_audited : OneRule (λ m. GivesAudit m (chapters (0 ∷ 1 ∷ [])) (record { drop = 1; reader = 0; read = 1 } ∷ []))
   -- the refusal is number 8, of the marker's layer, number 2, and names the places 0 and 1
   pub upward_told : (number upward_fault.refusal ≡ 8) × (layer_number upward_fault.layer ≡ 2) × (places upward_fault.refusal ≡ (Some 0, Some 1))
   -- what needs two points that exclude one another is possible, and in no stable ruling
-  pub both_reads : Both (λ m. Reads m (chapters (0 ∷ 0 ∷ 1 ∷ [])) [] (0 ∷ 1 ∷ 2 ∷ []))
-  pub both_lists : Both (λ m. Lists m (chapters (0 ∷ 0 ∷ 1 ∷ [])) ((0 ∷ []) ∷ (1 ∷ []) ∷ []) 8)
+  pub both_reads : Both (λ m. GivesReading m (chapters (0 ∷ 0 ∷ 1 ∷ [])) [] (0 ∷ 1 ∷ 2 ∷ []))
+  pub both_lists : Both (λ m. GivesListing m (chapters (0 ∷ 0 ∷ 1 ∷ [])) ((0 ∷ []) ∷ (1 ∷ []) ∷ []) 8)
   -- 0 stands, so 1 falls, so 2 stands
-  pub protesting_reads : Protesting (λ m. Reads m one_chapter (0 ∷ 2 ∷ []) (0 ∷ 2 ∷ []))
-  -- books of one point with no rule, and with nothing lodged, as new books are: the empty ruling is stable
-  pub new_rules_list : OfRules 1 [] (λ m. Lists m one_chapter ([] ∷ []) 2)
-  pub new_protests_list : OfProtests 1 [] [] (λ m. Lists m one_chapter ([] ∷ []) 2)
+  pub protesting_reads : Protesting (λ m. GivesReading m one_chapter (0 ∷ 2 ∷ []) (0 ∷ 2 ∷ []))
+  -- a new marker over a new book of either sort: the empty ruling alone is stable
+  pub new_rules_list : OfEach NewOverRules (λ m. GivesListing (meaning_of (book_of m)) (placing m) ([] ∷ []) 2)
+  pub new_protests_list : OfEach NewOverProtests (λ m. GivesListing (protest_meaning (book_of m)) (placing m) ([] ∷ []) 2)

@@ -7,7 +7,7 @@ use super::ProtestBook;
 use crate::book::Book;
 use crate::checks;
 use crate::protesters::Protesters;
-use answers::{Fault, Refusal};
+use answers::{Fault, Layer, Refusal};
 use rulings::Ruling;
 
 impl ProtestBook {
@@ -65,8 +65,8 @@ impl Book for ProtestBook {
     }
 
     fn enter(&mut self, point: u8, p: Ruling, q: Ruling) -> Result<(), Fault> {
-        checks::point(point, self.size)?;
-        checks::marks(p, q, self.size)?;
+        Layer::Book.check_point(point, self.size)?;
+        Layer::Book.check_marks(p.union(q), self.size)?;
         if let Some(supporter) = p.first_from(0) {
             return Err(checks::fault(Refusal::NoSupportersHere(supporter)));
         }
@@ -75,7 +75,7 @@ impl Book for ProtestBook {
     }
 
     fn withdraw(&mut self, point: u8) -> Result<(), Fault> {
-        checks::point(point, self.size)?;
+        Layer::Book.check_point(point, self.size)?;
         if self.protesters.of(point).is_none() {
             return Err(checks::fault(Refusal::NothingEntered(point)));
         }

@@ -18,7 +18,8 @@ pub fn protest_chapters_are_evaluated()
     ensures { (b : ProtestBook) → EvaluatesTo (protest_meaning b) (protest_program b) }
 {}
 
-// A theorem: the sure points of a protest book are the grounded extension of the framework of its lodged points.
+// A theorem: a set is the grounded extension of the framework of a protest book's lodged points exactly if it is the sure
+// points of a well-founded model of the book.
 pub fn sure_points_are_grounded()
-    ensures { (b : ProtestBook) (S P : Points) → WellFounded (protest_meaning b) S P → GroundedExtension (framework_of b) S }
+    ensures { (b : ProtestBook) (S : Points) → GroundedExtension (framework_of b) S ↔ ((P : Points) × WellFounded (protest_meaning b) S P) }
 {}

@@ -7,8 +7,9 @@ ghost use Rattle.books.specs.PromiseLemmas as Promise;
 use super::RuleBook;
 use crate::book::Book;
 use crate::checks;
-use crate::table::{Entry, Table};
-use answers::{Fault, Refusal};
+use crate::entry::Entry;
+use crate::table::Table;
+use answers::{Fault, Layer, Refusal};
 use rulings::Ruling;
 
 impl RuleBook {
@@ -61,8 +62,8 @@ impl Book for RuleBook {
     }
 
     fn enter(&mut self, point: u8, p: Ruling, q: Ruling) -> Result<(), Fault> {
-        checks::point(point, self.size)?;
-        checks::marks(p, q, self.size)?;
+        Layer::Book.check_point(point, self.size)?;
+        Layer::Book.check_marks(p.union(q), self.size)?;
         self.table.push(Entry {
             point,
             supporters: p,
@@ -71,7 +72,7 @@ impl Book for RuleBook {
     }
 
     fn withdraw(&mut self, point: u8) -> Result<(), Fault> {
-        checks::point(point, self.size)?;
+        Layer::Book.check_point(point, self.size)?;
         if !self.table.has_entry_for(point) {
             return Err(checks::fault(Refusal::NothingEntered(point)));
         }

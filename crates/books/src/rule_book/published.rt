@@ -3,7 +3,7 @@ ghost use Rattle.std.specs.Prelude.{◌↔◌};
 ghost use Rattle.rulings.specs.Points.{Points};
 ghost use Rattle.semantics.specs.Closure.{IsClosure, Stable};
 ghost use Rattle.semantics.specs.WellFounded.{WellFounded};
-ghost use Rattle.books.specs.PartialEvaluation.{EvaluatesTo};
+ghost use Rattle.books.specs.PartialEvaluation.{EvaluatesTo, EvaluatesToEntries};
 ghost use Rattle.books.specs.Program.{StableModel, LeastModel, LeastPrecisePair, program_of, reduct};
 ghost use Rattle.books.specs.RuleBook.{entries, meaning_of};
 ghost use Rattle.books.specs.declared.rule_book.RuleBook.{RuleBook};
@@ -14,9 +14,10 @@ pub fn stable_rulings_are_stable_models()
     ensures stable { (b : RuleBook) (Y : Points) → Stable (meaning_of b) Y ↔ StableModel (program_of (entries b)) Y }
 {}
 
-// A theorem: a chapter of a rule book is the partial evaluation of its entries.
+// A theorem: a chapter of a rule book is the partial evaluation of its entries, which gives entries again.
 pub fn rule_chapters_are_evaluated()
-    ensures { (b : RuleBook) → EvaluatesTo (meaning_of b) (program_of (entries b)) }
+    ensures program { (b : RuleBook) → EvaluatesTo (meaning_of b) (program_of (entries b)) }
+    ensures entries { (b : RuleBook) → EvaluatesToEntries b }
 {}
 
 // A theorem: the well-founded model of a rule book is the least precise fixpoint of the stable operator on pairs, over its entries.

@@ -45,13 +45,12 @@ impl<B: Book> Marker<B> {
         self.book.withdraw(point)?;
         Ok(())
     }
+
     // Gives the point a chapter.
     pub fn place(&mut self, point: u8, chapter: u8) -> Result<(), Fault>
         ensures { Placed (B.meaning (book_of self.old)).size self.old point chapter result self.new }
     {
-        if point >= self.book.size() {
-            return Err(Fault::new(Layer::Marker, Refusal::NoSuchPoint(point)));
-        }
+        Layer::Marker.check_point(point, self.book.size())?;
         if chapter > 15 {
             return Err(Fault::new(Layer::Marker, Refusal::NoSuchChapter(point)));
         }

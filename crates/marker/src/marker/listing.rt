@@ -19,7 +19,7 @@ use rulings::Ruling;
 const CEILING: u32 = 65_536;
 
 // A step of the walk: the candidates of a level from the first on, over the part picked at the lower levels.
-#[derive(Clone, Copy)]
+#[derive(Clone, Copy, Default)]
 struct Step {
     first: u16,
     lower: Ruling,
@@ -31,12 +31,6 @@ impl Step {
         ensures { result ≡ record { first = 0; lower = lower } }
     {
         Step { first: 0, lower }
-    }
-}
-
-impl Default for Step {
-    fn default() -> Step {
-        Step::over(Ruling::empty())
     }
 }
 
@@ -122,7 +116,7 @@ impl<B: Book> Marker<B> {
     fn points_in(&self, number: u8) -> Ruling
         ensures { has result ≡ points_of (B.meaning (book_of self.now)) (placing self.now) number }
     {
-        Ruling::points_where(self.book.size(), |point| self.chapters.of(point) == number)
+        self.chapters.points_below(self.book.size(), number)
     }
 }
 

@@ -27,10 +27,7 @@ impl<B: Book> Marker<B> {
     fn read_upward(&self) -> Reading
         ensures { (k : ℕ) → k < 16 → PartRead (B.meaning (book_of self.now)) (placing self.now) (has result.sure) (has result.possible) k }
     {
-        let mut reading = Reading {
-            sure: Ruling::empty(),
-            possible: Ruling::empty(),
-        };
+        let mut reading = Reading::default();
         for number in 0..16u8 {
             reading = self.read_chapter(number, reading);
         }

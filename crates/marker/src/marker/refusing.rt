@@ -17,10 +17,7 @@ impl<B: Book> Marker<B> {
         ensures ok { OnOk result (NoStray (B.meaning (book_of self.now)) ruling) }
         ensures err { IfErr result (StrayDenied (B.meaning (book_of self.now)) ruling) }
     {
-        match ruling.first_from(self.book.size()) {
-            Some(point) => Err(Fault::new(Layer::Marker, Refusal::StrayMark(point))),
-            None => Ok(()),
-        }
+        Layer::Marker.check_marks(ruling, self.book.size())
     }
 
     // Chapters that do not fit: the first upward reading is named.

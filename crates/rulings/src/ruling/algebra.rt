@@ -32,19 +32,13 @@ impl Ruling {
     pub fn is_part_of(self, other: Ruling) -> bool
         ensures { (result ≡ true) ↔ Part (has self) (has other) }
     {
-        self.bytes
-            .iter()
-            .zip(&other.bytes)
-            .all(|(mine, theirs)| mine & !theirs == 0)
+        self.difference(other) == Ruling::empty()
     }
 
     pub fn is_disjoint_from(self, other: Ruling) -> bool
         ensures { (result ≡ true) ↔ Disjoint (has self) (has other) }
     {
-        self.bytes
-            .iter()
-            .zip(&other.bytes)
-            .all(|(mine, theirs)| mine & theirs == 0)
+        self.intersection(other) == Ruling::empty()
     }
 
     // The ruling whose bytes are made of those of the two, place by place.

@@ -1,7 +1,7 @@
 // The lowest point of a kind.
 ghost use Rattle.std.specs.Prelude.{◌&&◌, nat_le};
 ghost use Rattle.rulings.specs.Points.{Lowest};
-ghost use Rattle.rulings.specs.Rulings.{digit, has, differing};
+ghost use Rattle.rulings.specs.Rulings.{has, differing};
 
 use super::Ruling;
 
@@ -10,10 +10,13 @@ impl Ruling {
     pub fn first_difference(self, other: Ruling) -> Option<u8>
         ensures { Lowest (differing self other) result }
     {
-        let place = (0..16u8).find(|i| self.bytes[*i as usize] != other.bytes[*i as usize])?;
-        let apart = self.bytes[place as usize] ^ other.bytes[place as usize];
-        let digit = lowest_digit(apart)?;
-        Some((place << 3) | digit)
+        let place = self
+            .bytes
+            .iter()
+            .zip(&other.bytes)
+            .position(|(mine, theirs)| mine != theirs)?;
+        let apart = self.bytes[place] ^ other.bytes[place];
+        Some(((place as u8) << 3) | apart.trailing_zeros() as u8)
     }
 
     // The lowest point at or above a number.
@@ -22,11 +25,4 @@ impl Ruling {
     {
         (start..128).find(|point| self.has(*point))
     }
-}
-
-// The lowest binary digit 1 of a byte.
-fn lowest_digit(byte: u8) -> Option<u8>
-    ensures { Lowest (digit byte) result }
-{
-    (0..8).find(|k| (byte >> *k) & 1 == 1)
 }

@@ -1,7 +1,7 @@
 // Making a ruling, and asking for one point or adding it.
 ghost use Rattle.std.specs.Prelude.{◌≡◌, ℕ, false, ◌&&◌, ◌||◌, ◌==◌, nat_lt};
 ghost use Rattle.rulings.specs.Points.{listed};
-ghost use Rattle.rulings.specs.Rulings.{has, Picked};
+ghost use Rattle.rulings.specs.Rulings.{has};
 
 use super::Ruling;
 
@@ -23,20 +23,6 @@ impl Ruling {
         ruling
     }
 
-    // The points below a size (and below 128) for which a test holds.
-    pub fn points_where<F: Fn(u8) -> bool>(size: u8, test: F) -> Ruling
-        requires { F.IsAlwaysCallable test }
-        ensures { Picked (F.post test) size result }
-    {
-        let mut ruling = Ruling::empty();
-        for point in 0..size.min(128) {
-            if test(point) {
-                ruling.insert(point);
-            }
-        }
-        ruling
-    }
-
     // Membership; false for a point of 128 or above.
     pub fn has(self, point: u8) -> bool
         ensures { result ≡ has self point }
@@ -51,5 +37,14 @@ impl Ruling {
         if point < 128 {
             self.bytes[(point >> 3) as usize] |= 1 << (point & 7);
         }
+    }
+}
+
+// The empty ruling.
+impl Default for Ruling {
+    ghost is_default = { λ ruling. (a : ℕ) → has ruling a ≡ false };
+
+    fn default() -> Ruling {
+        Ruling::empty()
     }
 }

@@ -10,7 +10,8 @@ use rulings::Ruling;
 use std::alloc::AllocError;
 
 // A row of a listing or of an audit.
-pub(super) trait Row: Copy + PartialEq + Drop {
+// Its default is the row of zeros, which is in every row where there were too few.
+pub(super) trait Row: Copy + PartialEq + Default + Drop {
     const OF: RowsOf;
 
     // As many rows as six points can need.
@@ -18,9 +19,6 @@ pub(super) trait Row: Copy + PartialEq + Drop {
 
     // What no answer is: a row that holds it was left as found.
     fn as_found() -> Self;
-
-    // What a row holds where there were too few.
-    fn zero() -> Self;
 
     fn said(self) -> Said;
 
@@ -35,10 +33,6 @@ impl Row for Ruling {
 
     fn as_found() -> Ruling {
         Ruling::from_points(&[99])
-    }
-
-    fn zero() -> Ruling {
-        Ruling::empty()
     }
 
     fn said(self) -> Said {
@@ -65,10 +59,6 @@ impl Row for UpwardReading {
             reader: 99,
             read: 99,
         }
-    }
-
-    fn zero() -> UpwardReading {
-        UpwardReading::default()
     }
 
     fn said(self) -> Said {
@@ -109,7 +99,7 @@ impl<B: Book + Drop> Trial<B> {
             self.compare_rows(case, &expected.rows, &rows)?;
             self.compare_later(case, expected.rows.len(), &rows)
         } else {
-            let zeros = vec![in self.heap; T::zero(); lent]?;
+            let zeros = vec![in self.heap; T::default(); lent]?;
             self.compare_rows(case, &zeros, &rows)
         }
     }

@@ -1,21 +1,18 @@
-use Rattle.std.proofs.Common.{arith}
+-- What derives is a step up, and the smallest set that it leads to is the closure.
+use Rattle.std.proofs.Common.{arith, rules}
+use mathlib.Core.Path.{fun_ext}
 use Rattle.rulings.specs.Rulings.{has}
-use Rattle.chapters.proofs.Turns.{turn_more, turn_settled, turns_done}
+use Rattle.semantics.proofs.Closures.{step, step_mono, step_inside}
 use Rattle.chapters.proofs.closures.closure.Goals as goal
-
-pub returns-then-is_part_of : goal.returns-then-is_part_of
-returns-then-is_part_of g c =
-    let b = c.args.operator.now in
-    turn_settled (g.O.Operator.meant b) (g.met.O.Operator.lawful b) (has c.args.y) c.loop-turn._turn (has c.loop-turn.x) (has c.derived-next.result)
-    c.loop-turn.invariant c.derived-next.ensures (c.is_part_of.ensures.0 c.if-is_part_of.true)
-
-pub loop-turn-preserved : goal.loop-turn-preserved
-loop-turn-preserved g c =
-    let b = c.args.operator.now in
-    turn_more (g.O.Operator.meant b) (g.met.O.Operator.lawful b) (has c.args.y) c.loop-turn._turn (has c.loop-turn.x) (has c.derived-next.result)
-    c.loop-turn.invariant c.derived-next.ensures
 
 pub returns : goal.returns
 returns g c =
-    let b = c.args.operator.now in
-    turns_done (g.O.Operator.meant b) (g.met.O.Operator.lawful b) (has c.args.y) c.loop-turn._turn (has c.loop-turn.x) (omega (arith, c.size-turn-end.ensures)) c.loop-turn.invariant
+    let m = g.O.Operator.meant c.args.operator.now in
+    let l = g.met.O.Operator.lawful c.args.operator.now in
+    let y = has c.args.y in
+    let least = c.climb.ensures (step m y) (record {
+      taken = λ x z h. fun_ext (λ a. search rules);
+      monotone = step_mono m l y;
+      inside = λ x a h. omega (arith, step_inside m l y x a h);
+    }) in
+    record { closed = least.closed; least = least.least }

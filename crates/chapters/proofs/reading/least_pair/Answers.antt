@@ -1,21 +1,20 @@
-use Rattle.std.proofs.Common.{arith}
+-- The two closures one after the other are a step up, and the smallest set that they lead to is what is sure.
+use Rattle.std.proofs.Common.{arith, rules}
 use Rattle.rulings.specs.Rulings.{has}
-use Rattle.chapters.proofs.Pairs.{pair_more, pair_settled, pair_done}
+use Rattle.semantics.proofs.Alternating.{two_closures, two_closures_mono, two_closures_inside}
+use Rattle.chapters.proofs.Pairs.{twice, least_pair}
 use Rattle.chapters.proofs.reading.least_pair.Goals as goal
-
-pub returns-then-is_part_of : goal.returns-then-is_part_of
-returns-then-is_part_of g c =
-    pair_settled (g.M.Operator.meant c.args.for_sure.now) (g.W.Operator.meant c.args.for_possible.now) (g.met.M.Operator.lawful c.args.for_sure.now) (g.met.W.Operator.lawful c.args.for_possible.now)
-    c.loop-turn._turn (has c.loop-turn.sure) (has c.closure-possible.result) (has c.closure-next.result)
-    c.loop-turn.invariant c.closure-possible.ensures c.closure-next.ensures (c.is_part_of.ensures.0 c.if-is_part_of.true)
-
-pub loop-turn-preserved : goal.loop-turn-preserved
-loop-turn-preserved g c =
-    pair_more (g.M.Operator.meant c.args.for_sure.now) (g.W.Operator.meant c.args.for_possible.now) (g.met.M.Operator.lawful c.args.for_sure.now) (g.met.W.Operator.lawful c.args.for_possible.now)
-    c.loop-turn._turn (has c.loop-turn.sure) (has c.closure-possible.result) (has c.closure-next.result)
-    c.loop-turn.invariant c.closure-possible.ensures c.closure-next.ensures
 
 pub returns : goal.returns
 returns g c =
-    pair_done (g.M.Operator.meant c.args.for_sure.now) (g.W.Operator.meant c.args.for_possible.now) (g.met.M.Operator.lawful c.args.for_sure.now) (g.met.W.Operator.lawful c.args.for_possible.now)
-    c.loop-turn._turn (has c.loop-turn.sure) (has c.closure-possible-2.result) (omega (arith, c.size-turn-end.ensures)) c.loop-turn.invariant c.closure-possible-2.ensures
+    let m = g.M.Operator.meant c.args.for_sure.now in
+    let w = g.W.Operator.meant c.args.for_possible.now in
+    let l = g.met.M.Operator.lawful c.args.for_sure.now in
+    let v = g.met.W.Operator.lawful c.args.for_possible.now in
+    least_pair m w l v (has c.climb-sure.result) (has c.closure-possible.result)
+    (c.climb-sure.ensures (two_closures m w) (record {
+      taken = λ x z h. twice m w l v (has x) (has z) (search rules);
+      monotone = two_closures_mono m w l v;
+      inside = λ x a h. omega (arith, two_closures_inside m w l v x a h);
+    }))
+    c.closure-possible.ensures

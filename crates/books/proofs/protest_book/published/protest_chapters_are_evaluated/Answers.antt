@@ -1,7 +1,7 @@
 -- The protest book is given by its program, whose bodies it reads.
 use Rattle.books.specs.ProtestBook.{protest_meaning, protest_program}
 use Rattle.books.proofs.PartialEvaluation.{evaluates}
-use Rattle.books.specs.Protests.{given_by_protests, reads_bodies_of_protests}
+use Rattle.books.proofs.ProgramsOfBooks.{given_by_protests, reads_bodies_of_protests}
 use Rattle.books.proofs.protest_book.published.protest_chapters_are_evaluated.Goals as goal
 
 pub returns : goal.returns

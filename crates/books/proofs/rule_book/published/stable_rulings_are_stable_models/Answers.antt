@@ -1,7 +1,8 @@
 -- The rule book is given by the program of its entries.
 use Rattle.books.specs.Program.{program_of}
 use Rattle.books.specs.RuleBook.{entries, meaning_of}
-use Rattle.books.specs.ProgramLemmas.{closure_is_least_model, stable_is_stable_model, given_by_entries}
+use Rattle.books.proofs.Programs.{closure_is_least_model, stable_is_stable_model}
+use Rattle.books.proofs.ProgramsOfBooks.{given_by_entries}
 use Rattle.books.proofs.rule_book.published.stable_rulings_are_stable_models.Goals as goal
 
 pub returns : goal.returns

@@ -12,7 +12,6 @@ use Rattle.answers.specs.declared.listing.Listing.{Listing}
 use Rattle.marker.specs.Listing.{AllEmpty, NoneWide, TriedInVain}
 use Rattle.chapters.specs.Table.{chapter_of}
 use Rattle.marker.specs.Walk.{Walked, InVain}
-use Rattle.marker.proofs.Denials.{listed_denied}
 use Rattle.marker.proofs.marker.Marker.list.Goals as goal
 
 filled_empty : (found rows left : List Ruling) (e : Ruling) → ((a : ℕ) → has e a ≡ false) → length rows ≡ length found → length left ≡ length rows →
@@ -30,9 +29,9 @@ tried_in_vain m ch found rows l why f fit narrow walked is (inr (e, within, more
 pub returns-in-Some : goal.returns-in-Some
 returns-in-Some g c =
     let s = c.args.self.now in
-    listed_denied (g.B.Book.meaning s.book) (chapter_of s.chapters) c.args.rows.now c.new.result c.fill.new.self (inr (
+    inr (
       tried_in_vain (g.B.Book.meaning s.book) (chapter_of s.chapters) c.args.rows.now c.walk-listing.new.rows c.walk-listing.result c.in-Some.refusal
           c.new.result c.in_ok-refuse_upward_readings.ensures.ok c.in_ok-refuse_wide_chapters.ensures.ok c.walk-listing.ensures c.new.ensures c.in-Some.ensures,
       filled_empty c.args.rows.now c.walk-listing.new.rows c.fill.new.self c.empty.result c.empty.ensures c.walk-listing.ensures.as_long
           c.fill.ensures.len c.fill.ensures.clones,
-    ))
+    )

@@ -1,11 +1,12 @@
 use Rattle.std.proofs.Common.{sym}
 use mathlib.Core.Path.{fun_ext}
 use Rattle.rulings.specs.Rulings.{has}
-use Rattle.marker.proofs.Verdicts.{no_difference, only_second}
+use Rattle.rulings.proofs.Differences.{xor_apart}
+use Rattle.marker.proofs.Verdicts.{only_second}
 use Rattle.marker.proofs.marker.judging.compare.Goals as goal
 
 pub returns-in-None : goal.returns-in-None
-returns-in-None c = fun_ext (λ a. no_difference (has c.args.ruling a) (has c.args.closure a) (c.in-None.ensures a))
+returns-in-None c = fun_ext (λ a. xor_apart (has c.args.ruling a) (has c.args.closure a) (c.in-None.ensures a))
 
 pub returns-in-Some-2 : goal.returns-in-Some-2
 returns-in-Some-2 c =

@@ -3,7 +3,7 @@ use Rattle.std.proofs.Common.{◌≡◌, ℕ, true, Bool, List, ◌<◌, ◌≤�
 use Rattle.std.specs.List.{filter}
 use Rattle.std.proofs.lemmas.List.Elements.{All-filter, All-same}
 use Rattle.std.proofs.lemmas.List.Sums.{length-filter, count_by-le-length}
-use Rattle.books.specs.declared.table.Entry.{Entry}
+use Rattle.books.specs.declared.entry.Entry.{Entry}
 use Rattle.books.specs.Entries.{standing, names}
 use Rattle.books.proofs.rule_book.as_book.RuleBookBook.withdraw.Goals as goal
 

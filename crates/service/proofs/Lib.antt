@@ -1,0 +1,2 @@
+-- Lemmas on what was read, as far as it is served.
+pub mod Reaching

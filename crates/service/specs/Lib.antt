@@ -1,0 +1,2 @@
+-- Serving what a reader gives, to a writer.
+pub mod Serving

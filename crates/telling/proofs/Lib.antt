@@ -1,0 +1,2 @@
+-- Lemmas on entries that a rule book takes.
+pub mod Taking
