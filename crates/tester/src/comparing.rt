@@ -1,4 +1,4 @@
-// What a marker answers beside what the definitions say.
+// Every call of a marker beside what the definitions say.
 use crate::expected::Expected;
 use crate::masks::Mask;
 use crate::placements::Placement;
@@ -62,7 +62,7 @@ impl<B: Book + Drop> Trial<B> {
         self.compare_case(&Case { book, placement }, &whole)
     }
 
-    // Asks all that a marker can be asked of one case, and compares each answer.
+    // Makes all calls on one case, and compares each answer.
     fn compare_case<S: SmallBook>(
         &mut self,
         case: &Case<S>,
@@ -100,37 +100,26 @@ impl<B: Book + Drop> Trial<B> {
         Ok(())
     }
 
-    // Judges every ruling of the book's points, and one that has them all and two points more.
+    // Judges every ruling, whole and by chapter.
     fn compare_judgings<S: SmallBook>(&mut self, expected: &Expected<S>) -> Result<(), AllocError> {
-        let size = expected.case.book.size();
-        for ruling in Mask::sets(size) {
-            self.compare_judged(expected, ruling)?;
+        for ruling in Mask::sets(expected.case.book.size()) {
+            self.tally.count(|counts| &mut counts.rulings);
+            let judged = self.judge(ruling);
+            self.tally.compare(
+                expected.case,
+                Call::Judge(ruling),
+                expected.judged(ruling),
+                judged,
+            )?;
+            let judged = self.judge_by_chapter(ruling);
+            self.tally.compare(
+                expected.case,
+                Call::JudgeByChapter(ruling),
+                expected.judged_by_chapter(ruling),
+                judged,
+            )?;
         }
-        let stray = Mask::all(size).with(size).with(size.wrapping_add(1));
-        self.compare_judged(expected, stray)
-    }
-
-    // Judges a ruling, whole and by chapter.
-    fn compare_judged<S: SmallBook>(
-        &mut self,
-        expected: &Expected<S>,
-        ruling: Mask,
-    ) -> Result<(), AllocError> {
-        self.tally.count(|counts| &mut counts.rulings);
-        let judged = self.judge(ruling);
-        self.tally.compare(
-            expected.case,
-            Call::Judge(ruling),
-            expected.judged(ruling),
-            judged,
-        )?;
-        let judged = self.judge_by_chapter(ruling);
-        self.tally.compare(
-            expected.case,
-            Call::JudgeByChapter(ruling),
-            expected.judged_by_chapter(ruling),
-            judged,
-        )
+        Ok(())
     }
 
     fn judge(&self, ruling: Mask) -> Answer {

@@ -1,4 +1,4 @@
-// What the definitions say that a marker is to answer.
+// What the definitions say that the calls of a marker are to answer.
 use crate::masks::Mask;
 use crate::parts::Parts;
 use crate::saying::{Answer, Said};
@@ -61,16 +61,7 @@ impl<'a, S: SmallBook> Expected<'a, S> {
         self.parts.as_ref().map_err(|fault| *fault)
     }
 
-    // Denied for a ruling with a point that the book does not have, the lowest.
-    fn refuse_strays(&self, ruling: Mask) -> Result<(), Fault> {
-        match ruling.without(Mask::all(self.case.book.size())).lowest() {
-            Some(stray) => Err(denial(Refusal::StrayMark(stray))),
-            None => Ok(()),
-        }
-    }
-
     pub(crate) fn judged(&self, ruling: Mask) -> Answer {
-        self.refuse_strays(ruling)?;
         Ok(Said::Judged(self.whole.verdict(ruling)))
     }
 
@@ -79,7 +70,6 @@ impl<'a, S: SmallBook> Expected<'a, S> {
     }
 
     pub(crate) fn judged_by_chapter(&self, ruling: Mask) -> Answer {
-        self.refuse_strays(ruling)?;
         Ok(Said::JudgedByChapter(self.parts()?.verdict(ruling)))
     }
 

@@ -1,6 +1,5 @@
-// The tester: what a marker judges, reads, lists and audits beside the definitions, over families of small books. It
-// shares no code with the marker's closures: it decides what is closed, stable, well-founded, fitting and listed by
-// trying every set.
+// The tester: every call of a marker beside the definitions, over families of small books. It shares no code with
+// the marker's closures: it decides what is closed, stable, well-founded, fitting and listed by trying every set.
 #![tactic(auto)]
 
 mod comparing;
@@ -31,7 +30,7 @@ use std::io;
 fn main(rt: HostRuntime) -> io::Result<()> {
     let heap = rt.alloc();
     println!(rt;
-        "What a marker judges, reads, lists and audits beside the definitions, decided by trying every set of points"
+        "Every call of a marker beside the definitions, decided by trying every set of points"
     )?;
     let rules = try_every::<SmallRuleBook>(heap)?;
     report_family(

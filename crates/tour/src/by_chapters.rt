@@ -16,13 +16,19 @@ pub(crate) fn judge(rt: &impl Print) -> io::Result<()> {
 }
 
 pub(crate) fn read(rt: &impl Print) -> io::Result<()> {
-    say::title(rt, "Reading the example book, a chapter at a time")?;
+    say::title(
+        rt,
+        "Reading the example book: 0 and 1 strike each other, so nothing is sure",
+    )?;
     let marker = in_chapters(rt, 1, 2)?;
     say::read(rt, &marker)
 }
 
 pub(crate) fn audit(rt: &impl Print) -> io::Result<()> {
-    say::title(rt, "The chapters of 2 and 3 exchanged")?;
+    say::title(
+        rt,
+        "The chapters of 2 and 3 exchanged: 3 reads 2, now in a higher chapter",
+    )?;
     let marker = in_chapters(rt, 2, 1)?;
     say::read(rt, &marker)?;
     let mut rows = [UpwardReading::default(); 4];
