@@ -1,5 +1,6 @@
 // Rulings as sets of points, and their order.
 use rulings::Ruling;
+use std::test::Fail;
 
 #[test]
 fn points_by_bit(rt: HostRuntime) {
@@ -47,4 +48,16 @@ fn row_order(rt: HostRuntime) {
     assert!(rt; !three.precedes(one));
     assert!(rt; !one.precedes(one));
     assert!(rt; Ruling::from_points(&[127]).precedes(Ruling::from_points(&[0])));
+}
+
+#[test]
+fn rulings_are_shown_alike_in_every_form(rt: HostRuntime) -> Result<(), Fail> {
+    let ruling = Ruling::from_points(&[0, 2, 127]);
+    let plain = format!(in rt.alloc(); "{ruling}")?;
+    let alternate = format!(in rt.alloc(); "{ruling:#}")?;
+    let wide = format!(in rt.alloc(); "{ruling:5}")?;
+    assert_eq!(rt; plain.as_str(), "{0, 2, 127}");
+    assert_eq!(rt; alternate.as_str(), "{0, 2, 127}");
+    assert_eq!(rt; wide.as_str(), "{0, 2, 127}");
+    Ok(())
 }
