@@ -10,8 +10,8 @@ use Rattle.chapters.specs.Climbing.{LeastPrefixpoint}
 
 module _ (m w : Meaning) (l : Lawful m) (v : Lawful w) where
   -- two closures, as they were found, are the two closures
-  pub twice : (s t : Points) → (p : Points) × IsClosure w s p × IsClosure m p t → t ≡ two_closures m w s
-  twice s t (p, c, d) =
+  pub twice : (s p t : Points) → IsClosure w s p → IsClosure m p t → t ≡ two_closures m w s
+  twice s p t c d =
       unique m p t (closure m p) d (is_closure m l p) ∙ ap (closure m) (unique w s p (closure w s) c (is_closure w v s))
 
   pub least_pair : (s p : Points) → LeastPrefixpoint (two_closures m w) s → IsClosure w s p → LeastPair m w s p
@@ -19,7 +19,7 @@ module _ (m w : Meaning) (l : Lawful m) (v : Lawful w) where
       record {
         alternates = record { sure = subst (IsClosure m p) same (is_closure m l p); possible = c };
         extreme = λ S' P' t.
-            let part : Part s S' = f.least S' (subst (λ (z : Points). Part z S') (twice S' S' (P', t.possible, t.sure)) (λ a h. h)) in
+            let part : Part s S' = f.least S' (subst (λ (z : Points). Part z S') (twice S' P' S' t.possible t.sure) (λ a h. h)) in
             (part, shrinks w v s S' p P' part c t.possible);
       }
     where
@@ -30,4 +30,4 @@ module _ (m w : Meaning) (l : Lawful m) (v : Lawful w) where
       fixed = same_points (F s) s f.closed (f.least (F s) (two_closures_mono m w l v (F s) s f.closed))
 
       same : closure m p ≡ s
-      same = twice s (closure m p) (p, c, is_closure m l p) ∙ fixed
+      same = twice s p (closure m p) c (is_closure m l p) ∙ fixed

@@ -3,7 +3,7 @@ ghost use Rattle.std.specs.Prelude.{◌≡◌, ℕ};
 ghost use Rattle.rulings.specs.Rulings.{has};
 ghost use Rattle.semantics.specs.Closure.{IsClosure};
 
-use crate::climbing::climb;
+use crate::climbing::{Step, climb};
 use crate::operator::Operator;
 use crate::picking::points_where;
 use rulings::Ruling;
@@ -12,7 +12,7 @@ use rulings::Ruling;
 pub fn closure<O: Operator>(operator: &O, y: Ruling) -> Ruling
     ensures { IsClosure (O.Operator.meant operator.now) (has y) (has result) }
 {
-    climb(operator.size(), |x| derived(operator, x, y))
+    climb(operator.size(), |x| Step::to(derived(operator, x, y))).ruling
 }
 
 // The points that derive under the pair (x, y).

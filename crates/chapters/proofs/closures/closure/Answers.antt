@@ -10,8 +10,8 @@ returns g c =
     let m = g.O.Operator.meant c.args.operator.now in
     let l = g.met.O.Operator.lawful c.args.operator.now in
     let y = has c.args.y in
-    let least = c.climb.ensures (step m y) (record {
-      taken = λ x z h. fun_ext (λ a. search rules);
+    let least = c.climb.ensures.top (step m y) (record {
+      taken = λ x s h. fun_ext (λ a. search rules);
       monotone = step_mono m l y;
       inside = λ x a h. omega (arith, step_inside m l y x a h);
     }) in
