@@ -1,5 +1,5 @@
 -- A call carried out: what it told, and the reply to it.
-use Rattle.std.proofs.Common.{◌≡◌, ℕ, ◌/◌, ◌%◌, List, [], ◌∷◌, ◌++◌, Ok, Err, Result, sym, ap, ap₂, ◌∙◌, subst, arith}
+use Rattle.std.proofs.Common.{◌≡◌, ℕ, ◌/◌, ◌%◌, List, ◌∷◌, [], Ok, Err, Result, sym, refl, ap, ap₂, subst, arith}
 use Rattle.std.specs.Int.{to_le_bytes, w32}
 use Rattle.std.specs.Result.{IsErrAnd}
 use Rattle.answers.specs.declared.fault.Fault.{Fault}
@@ -11,19 +11,15 @@ use Rattle.runs.specs.Told.{Told, denied}
 use Rattle.reader.specs.Carrying.{RepliesAs, Carried}
 use Rattle.reader.specs.Replies.{least_first}
 
--- a denial is passed on
-pub passed_on : (r : Result (List ℕ) Fault) (why : Fault) → IsErrAnd r (λ f. f ≡ why) → RepliesAs (denied why) r
-passed_on (Ok reply) why e = absurd e
-passed_on (Err f) why e = sym (ap denied e)
+-- a denial is passed on, and nothing is written
+pub passed_on : (r : Result ℕ Fault) (why : Fault) (found : List ℕ) → IsErrAnd r (λ f. f ≡ why) → RepliesAs (denied why) found r found
+passed_on (Ok n) why found e = absurd e
+passed_on (Err f) why found e = (sym (ap denied e), refl)
 
 -- a call that is known by its kind
-pub carried : {B : Type 0} (S : Sort B) (call c : Call) (s s' : Marker B) (t : Told) (r : Result (List ℕ) Fault) →
-    call ≡ c → call_does S c s t s' → RepliesAs t r → Carried S call s r s'
-carried S call c s s' t r is does replies = (t, subst (λ (x : Call). call_does S x s t s') (sym is) does, replies)
-
--- bytes put behind others, where both are known
-pub behind : {r xs ys us vs : List ℕ} → r ≡ xs ++ ys → xs ≡ us → ys ≡ vs → r ≡ us ++ vs
-behind is e f = is ∙ ap₂ (λ (a b : List ℕ). a ++ b) e f
+pub carried : {B : Type 0} (S : Sort B) (call c : Call) (s s' : Marker B) (t : Told) (found : List ℕ) (r : Result ℕ Fault) (left : List ℕ) →
+    call ≡ c → call_does S c s t s' → RepliesAs t found r left → Carried S call s found r left s'
+carried S call c s s' t found r left is does replies = (t, subst (λ (x : Call). call_does S x s t s') (sym is) does, replies)
 
 -- std's four bytes of a number
 pub four_bytes : (n : ℕ) → to_le_bytes w32 n ≡ least_first 4 n

@@ -17,7 +17,7 @@ use Rattle.runs.specs.History.{AskedAt, Unchanged}
 use Rattle.runs.specs.Law.{Law, Either, NotDenied}
 use Rattle.runs.specs.Step.{Kind, to_judge, to_judge_by_chapter, to_read, to_list, to_change, means}
 use Rattle.marker.specs.State.{placing}
-use Rattle.runs.specs.Told.{Told, done, verdict, chapter_verdict, reading, listing, denied}
+use Rattle.runs.specs.Told.{Told, done, verdict, chapter_verdict, reading, listing, audit, denied}
 use Rattle.runs.proofs.CallKinds.{Promises}
 use Rattle.runs.proofs.Laws.{marker_law}
 use Rattle.reader.specs.Replies.{least_first, fault_reply, ruling_row, reply_of}
@@ -49,6 +49,16 @@ module _ (o : ℕ) (t : Told) (reply : List ℕ) (e : reply ≡ reply_of o t) wh
 begins_as : (b o : ℕ) (t t' : Told) → t ≡ t' → Begins b (reply_of o t') → Begins b (reply_of o t)
 begins_as b o t t' e h = ap (λ (x : Told). get_or (reply_of o x) 0 0) e ∙ h
 
+-- only what was told done is replied to with 129
+told_done : (o : ℕ) (t : Told) → Begins 129 (reply_of o t) → t ≡ done
+told_done o done h = refl
+told_done o (verdict v) h = absurd (omega arith)
+told_done o (chapter_verdict w) h = absurd (omega arith)
+told_done o (reading sure possible) h = absurd (omega arith)
+told_done o (listing rows effort) h = absurd (omega arith)
+told_done o (audit rows) h = absurd (omega arith)
+told_done o (denied f) h = absurd (omega arith)
+
 -- the second byte of a verdict
 says_stable : (reply : List ℕ) (v : Verdict) → get_or reply 1 0 ≡ verdict_number v → RepliesStable reply ↔ (v ≡ says.Stable)
 says_stable reply v e = (λ h. stable_number v (sym e ∙ h), λ h. e ∙ ap verdict_number h)
@@ -78,18 +88,27 @@ module _ {B : Type 0} (S : Sort B) (p : Promises S) {s e : Marker B} {input outp
   abbrev own_law : Law X.history X.history
   own_law = marker_law S S p p s e s e X.calls X.calls X.answers X.answers X.history X.history
 
-  -- a change that told done was replied to with the byte of that
-  unchanged : (i j : ℕ) → NoChangeAccepted X i j → Unchanged X.history i j
-  unchanged i j none =
-      record {
-        later = none.later;
-        denied = λ n c t low high made answered change is.
-            let m = means S.meaning (X.history.moment n) in
-            let ch = placing (X.history.moment n) in
-            let o = offset X.calls n in
-            let asked : AskedAt X.history n to_change m ch t = record { call = c; made = made; of_kind = change; answered = answered; meant = refl; placed = refl } in
-            none.denied n m ch (reply_of o t) low high (record { told = t; asked = asked; bytes = refl }) (begins_as 129 o t done is refl);
-      }
+  -- a change told done exactly where it was replied to with the byte of that
+  unchanged : (i j : ℕ) → NoChangeAccepted X i j ↔ Unchanged X.history i j
+  unchanged i j = (
+    λ none.
+        record {
+          later = none.later;
+          denied = λ n c t low high made answered change is.
+              let m = means S.meaning (X.history.moment n) in
+              let ch = placing (X.history.moment n) in
+              let o = offset X.calls n in
+              let asked : AskedAt X.history n to_change m ch t = record { call = c; made = made; of_kind = change; answered = answered; meant = refl; placed = refl } in
+              none.denied n m ch (reply_of o t) low high (record { told = t; asked = asked; bytes = refl }) (begins_as 129 o t done is refl);
+        },
+    λ same.
+        record {
+          later = same.later;
+          denied = λ n m ch reply low high r begins.
+              same.denied n r.asked.call r.told low high r.asked.made r.asked.answered r.asked.of_kind
+              (told_done (offset X.calls n) r.told (ap (λ (xs : List ℕ). get_or xs 0 0) (sym r.bytes) ∙ begins));
+        },
+  )
 
   agree : VerdictsAgree X
   agree y i j m m' ch ch' reply reply' r r' begins begins' un =
@@ -100,7 +119,7 @@ module _ {B : Type 0} (S : Sort B) (p : Promises S) {s e : Marker B} {input outp
       let both = own_law.judgings_agree y i j m m' ch ch' v.0 w.0
       (subst (AskedAt X.history i (to_judge y) m ch) v.1 r.asked)
       (subst (AskedAt X.history j (to_judge_by_chapter y) m' ch') w.1 r'.asked)
-      (⊎_map (unchanged i j) (unchanged j i) un) in (
+      (⊎_map (unchanged i j).0 (unchanged j i).0 un) in (
         both.0,
         through (says_stable reply v.0 (second_of (offset X.calls i) r.told (verdict v.0) reply r.bytes v.1)) both.1,
         through (says_stable reply' w.0.verdict (second_of (offset X.calls j) r'.told (chapter_verdict w.0) reply' r'.bytes w.1)) both.2,

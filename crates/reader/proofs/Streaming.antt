@@ -1,9 +1,11 @@
 -- A stream under way: the calls read and answered so far, one record more, and how it ends.
-use Rattle.std.proofs.Common.{◌≡◌, ℕ, ◌+◌, ◌-◌, ◌<◌, ◌≤◌, ◌⊎◌, List, [], ◌∷◌, ◌++◌, length, drop, Some, None, Ok, Err, sym, refl, ap, ◌∙◌, subst, inl, inr, ⊎_elim, append_assoc, append-nil, arith, length-append}
+use Rattle.std.proofs.Common.{◌≡◌, ℕ, ◌+◌, ◌-◌, ◌<◌, ◌≤◌, ◌⊎◌, List, [], ◌∷◌, ◌++◌, length, take, drop, Some, None, Ok, Err, Option, sym, refl, ap, ◌∙◌, subst, inl, inr, ⊎_elim, append_assoc, append-nil, arith, length-append}
 use Rattle.std.specs.List.{ContainsAt}
 use Rattle.std.proofs.ByRecursion.{has_push_cases}
 use Rattle.std.proofs.lemmas.Grind.{flat_map-append}
-use Rattle.std.proofs.lemmas.List.{drop_at, drop-drop}
+use Rattle.std.proofs.lemmas.List.{take_at, drop_at, drop-drop}
+use Rattle.answers.specs.declared.fault.Fault.{Fault}
+use Rattle.answers.specs.declared.fault.Refusal.TheVariants.{InputTooLong}
 use Rattle.books.specs.declared.book.Book.{Ghosts as Sort}
 use Rattle.marker.specs.declared.marker.Marker.{Marker}
 use Rattle.runs.specs.declared.call.Call.{Call}
@@ -15,7 +17,8 @@ use Rattle.reader.specs.declared.front.Record.{Record}
 use Rattle.reader.specs.Records.{Front, AtFront, Ends, Lends64, record_of, records_of}
 use Rattle.reader.specs.Replies.{reply_of}
 use Rattle.reader.specs.Streams.{Stream, ServedSoFar, replies, last_reply}
-use Rattle.reader.specs.Turns.{TakesRecord, Does}
+use Rattle.reader.specs.Turns.{Turned, TakesRecord, Does, Replied, reader_fault}
+use Rattle.reader.specs.Writing.{WroteAll}
 use Rattle.reader.proofs.Fronts.{within_unreadable, within_record}
 
 -- the records of calls, and of one call more
@@ -33,6 +36,25 @@ replies_push o (d ∷ cs) c (u ∷ ts) t each =
     ap (λ xs. reply_of o u ++ xs) (replies_push (o + length (record_of d)) cs c ts t (omega arith))
     ∙ ap (λ n. reply_of o u ++ (replies (o + length (record_of d)) cs ts ++ reply_of n t)) further
     ∙ sym (append_assoc (reply_of o u) (replies (o + length (record_of d)) cs ts) (reply_of (o + length (records_of (d ∷ cs))) t))
+
+-- a reply that was written is what stands at the front of the buffer
+pub written_there : {reply found left : List ℕ} {n : ℕ} → WroteAll reply found n left → take n left ≡ reply
+written_there {reply} {found} {n = n} w = ap (take n) w.there ∙ take_at reply (drop (length reply) found) n (sym w.count)
+
+reply_there : (told : Option (List ℕ)) (found left : List ℕ) (n : ℕ) → Replied told found (Ok (Some n)) left → (told ≡ Some (take n left)) × (n ≤ length left)
+reply_there None found left n (is, _) = absurd (cc)
+reply_there (Some reply) found left n (is, wrote) =
+    let long : n ≡ length reply = cc in
+    let w : WroteAll reply found n left = record { count = long; there = wrote } in
+    (ap (λ (xs : List ℕ). Some xs) (sym (written_there w)), omega (arith, ap length wrote, length-append reply (drop (length reply) found)))
+
+no_reply : (told : Option (List ℕ)) (found left : List ℕ) → Replied told found (Ok None) left → told ≡ None
+no_reply None found left replied = refl
+no_reply (Some reply) found left (is, _) = absurd (cc)
+
+never_refused : {A : Type 0} (told : Option (List ℕ)) (found left : List ℕ) (why : Fault) → Replied told found (Err why) left → A
+never_refused None found left why (is, _) = absurd (cc)
+never_refused (Some reply) found left why (is, _) = absurd (cc)
 
 -- all calls of a stream, as the first of its input
 pub so_far : {B : Type 0} (S : Sort B) (start : Marker B) (input output : List ℕ) (end : Marker B) → Stream S start input output end → ServedSoFar S start input end
@@ -171,3 +193,34 @@ module _ {B : Type 0} (S : Sort B) (start : Marker B) {input held : List ℕ} (s
   finished takes =
       let (f, stands, does) = subst (λ (xs : List ℕ). TakesRecord S xs place now None place' now') same takes in
       finishes S start input place place' output now now' f u stands does
+
+  module _ {found left : List ℕ} where
+    -- a turn that replied with so many bytes of the buffer
+    pub turned_on : (n : ℕ) (r : Option ℕ) → r ≡ Some n → Turned S held place found now (Ok r) place' left now' →
+        Further S start input place place' output (take n left) now' × (n ≤ length left) × (length input ≤ 32768)
+    turned_on n r is (inl (_, (refused, _, _, _))) = absurd (cc)
+    turned_on n r is (inr (inl (_, _, (refused, _, _, _)))) = absurd (cc)
+    turned_on n r is (inr (inr (small, _, (told, takes, replied)))) =
+        let (there, within) = reply_there told found left n (subst (λ (x : Option ℕ). Replied told found (Ok x) left) is replied) in (
+          taken (take n left) (subst (λ (x : Option (List ℕ)). TakesRecord S held place now x place' now') there takes),
+          within,
+          subst (λ (xs : List ℕ). length xs ≤ 32768) same small,
+        )
+
+    -- a turn that found no record
+    pub turned_off : (r : Option ℕ) → r ≡ None → Turned S held place found now (Ok r) place' left now' → (length input ≤ 32768) × Stream S start input output now'
+    turned_off r is (inl (_, (refused, _, _, _))) = absurd (cc)
+    turned_off r is (inr (inl (_, _, (refused, _, _, _)))) = absurd (cc)
+    turned_off r is (inr (inr (small, _, (told, takes, replied)))) =
+        let none = no_reply told found left (subst (λ (x : Option ℕ). Replied told found (Ok x) left) is replied) in (
+          subst (λ (xs : List ℕ). length xs ≤ 32768) same small,
+          finished (subst (λ (x : Option (List ℕ)). TakesRecord S held place now x place' now') none takes),
+        )
+
+    -- a turn is refused only for an input that is too long, where the buffer is long enough
+    pub refused : (why : Fault) → 1095 ≤ length found → Turned S held place found now (Err why) place' left now' →
+        (32768 < length input) × (why ≡ reader_fault InputTooLong) × (now' ≡ now)
+    refused why room (inl (long, (is, _, _, unchanged))) =
+        let reason : why ≡ reader_fault InputTooLong = cc in (subst (λ (xs : List ℕ). 32768 < length xs) same long, reason, unchanged)
+    refused why room (inr (inl (_, short, _))) = absurd (omega arith)
+    refused why room (inr (inr (_, _, (told, _, replied)))) = never_refused told found left why replied

@@ -1,12 +1,10 @@
 // The reader: one record a turn.
-ghost use Rattle.std.specs.Prelude.{◌≡◌, ◌≤◌, ◌<◌, length, MatchResult};
-ghost use Rattle.answers.specs.declared.fault.Refusal.TheVariants.{InputTooLong};
-ghost use Rattle.reader.specs.Turns.{Turned, TakesRecord, reader_fault};
+ghost use Rattle.std.specs.Prelude.{◌≡◌, ℕ, ◌≤◌, List, Option, Ok, length};
+ghost use Rattle.reader.specs.Turns.{Turned, TakesRecord, Replied};
 
 use crate::front::{Record, front_of};
 use crate::limits::{LONGEST_INPUT, LONGEST_REPLY};
 use crate::replies::{carry_out, denial};
-use crate::reply::Reply;
 use answers::{Fault, Layer, Refusal};
 use books::Book;
 use marker::Marker;
@@ -36,31 +34,21 @@ impl<'a> Reader<'a> {
         ensures turned { Turned B.Book self.old.input.now self.old.place reply.old marker.old result self.new.place reply.new marker.new }
         ensures input { self.new.input.now ≡ self.old.input.now }
     {
-        self.check_length()?;
-        if reply.len() < LONGEST_REPLY {
-            return Err(Fault::new(Layer::Reader, Refusal::ReplyTooShort));
-        }
-        let Some(told) = self.next_reply(marker) else {
-            return Ok(None);
-        };
-        Ok(Some(told.write_to(reply)))
-    }
-
-    // Denies an input that is too long.
-    pub(crate) fn check_length(&self) -> Result<(), Fault>
-        ensures { MatchResult result (λ _. length self.now.input.now ≤ LONGEST_INPUT) (λ f. (f ≡ reader_fault InputTooLong) × (LONGEST_INPUT < length self.now.input.now)) }
-    {
         if self.input.len() > LONGEST_INPUT {
             return Err(Fault::new(Layer::Reader, Refusal::InputTooLong));
         }
-        Ok(())
+        if reply.len() < LONGEST_REPLY {
+            return Err(Fault::new(Layer::Reader, Refusal::ReplyTooShort));
+        }
+        Ok(self.next_reply(marker, reply))
     }
 
-    // Does one record on the marker and answers its reply; none where no record is left.
+    // Does one record on the marker, writes its reply, and answers the reply's length; none where no record is left.
     // A record that cannot be read puts the reading at its end.
-    pub(crate) fn next_reply<B: Book>(&mut self, marker: &mut Marker<B>) -> Option<Reply>
-        requires { length self.old.input.now ≤ LONGEST_INPUT }
-        ensures takes { TakesRecord B.Book self.old.input.now self.old.place marker.old result self.new.place marker.new }
+    fn next_reply<B: Book>(&mut self, marker: &mut Marker<B>, reply: &mut [u8]) -> Option<usize>
+        requires small { length self.old.input.now ≤ LONGEST_INPUT }
+        requires room { LONGEST_REPLY ≤ length reply.old }
+        ensures takes { (told : Option (List ℕ)) × TakesRecord B.Book self.old.input.now self.old.place marker.old told self.new.place marker.new × Replied told reply.old (Ok result) reply.new }
         ensures input { self.new.input.now ≡ self.old.input.now }
     {
         let offset = self.place;
@@ -68,11 +56,14 @@ impl<'a> Reader<'a> {
             Ok(None) => None,
             Ok(Some(Record { call, length })) => {
                 self.place += length;
-                Some(carry_out(marker, call).unwrap_or_else(|fault| denial(fault, offset)))
+                Some(match carry_out(marker, call, reply) {
+                    Ok(length) => length,
+                    Err(fault) => denial(fault, offset, reply),
+                })
             }
             Err(why) => {
                 self.place = self.input.len();
-                Some(denial(Fault::new(Layer::Reader, why.into()), offset))
+                Some(denial(Fault::new(Layer::Reader, why.into()), offset, reply))
             }
         }
     }

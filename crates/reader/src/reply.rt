@@ -1,75 +1,59 @@
-// A reply: its bytes, each part put behind the others.
-ghost use Rattle.std.specs.Prelude.{◌≡◌, ℕ, ◌+◌, ◌*◌, ◌≤◌, List, [], ◌∷◌, ◌++◌, length};
+// A reply under way: its bytes stand at the front of a buffer that is lent, each part put behind the others.
+ghost use Rattle.std.specs.Prelude.{◌≡◌, ℕ, ◌+◌, ◌*◌, ◌<◌, ◌≤◌, List, [], ◌∷◌, length};
 ghost use Rattle.std.specs.List.{flat_map};
 ghost use Rattle.std.proofs.Common.{rules};
-ghost use Rattle.reader.specs.Replies.{mark_byte, ruling_row, upward_row, Wrote};
+ghost use Rattle.reader.specs.Replies.{mark_byte, ruling_row, upward_row};
+ghost use Rattle.reader.specs.Writing.{Holds, Adds};
 
-use crate::limits::LONGEST_REPLY;
 use crate::mark::Mark;
 use answers::UpwardReading;
-use arrayvec::ArrayVec;
 use rulings::Ruling;
-use std::marker::Model;
 
 #[derive(Drop)]
-pub(crate) struct Reply {
-    bytes: ArrayVec<u8, LONGEST_REPLY>,
+pub(crate) struct Reply<'a> {
+    buffer: &'a mut [u8],
+    pub(crate) length: usize,
 }
 
-impl Model for Reply {
-    ghost Value = { List ℕ };
-
-    ghost view = { λ r. r.bytes.items };
-}
-
-impl Reply {
+impl<'a> Reply<'a> {
     // A reply of one byte, its mark.
-    pub(crate) fn new(mark: Mark) -> Reply
-        ensures { result ≡ mark_byte mark ∷ [] }
+    pub(crate) fn new(buffer: &'a mut [u8], mark: Mark) -> Reply<'a>
+        requires { 0 < length buffer.old }
+        ensures lent { result.buffer.ghost_name ≡ buffer.entry.ghost_name }
+        ensures room { length result.buffer.now ≡ length buffer.old }
+        ensures count { result.length ≡ 1 }
+        ensures holds { Holds (mark_byte mark ∷ []) buffer.old result }
     {
-        let mut bytes = ArrayVec::new();
-        bytes.push(mark.byte());
-        Reply { bytes }
+        buffer[0] = mark.byte();
+        Reply { buffer, length: 1 }
     }
 
     // The reply with more bytes behind it.
-    pub(crate) fn with(mut self, bytes: &[u8]) -> Reply
-        requires { length self + length bytes.now ≤ LONGEST_REPLY }
-        ensures { result ≡ self ++ bytes.now }
+    pub(crate) fn with(&mut self, bytes: &[u8]) -> &mut Reply<'a>
+        requires { self.old.length + length bytes.now ≤ length self.old.buffer.now }
+        ensures same { result.ghost_name ≡ self.entry.ghost_name }
+        ensures lent { result.now.buffer.ghost_name ≡ self.old.buffer.ghost_name }
+        ensures room { length result.now.buffer.now ≡ length self.old.buffer.now }
+        ensures count { result.now.length ≡ self.old.length + length bytes.now }
+        ensures adds { Adds bytes.now self.old result.now }
     {
-        self.bytes.try_extend_from_slice(bytes).unwrap();
+        let end = self.length + bytes.len();
+        self.buffer[self.length..end].copy_from_slice(bytes);
+        self.length = end;
         self
     }
 
     // The reply with all rows behind it.
-    pub(crate) fn with_rows<R: ReplyRow>(self, rows: &[R]) -> Reply
-        requires { length self + R.ReplyRow.width * length rows.now ≤ LONGEST_REPLY }
-        ensures { result ≡ self ++ flat_map R.ReplyRow.told rows.now }
+    pub(crate) fn with_rows<R: ReplyRow>(&mut self, rows: &[R]) -> &mut Reply<'a>
+        requires { self.old.length + R.ReplyRow.width * length rows.now ≤ length self.old.buffer.now }
+        ensures same { result.ghost_name ≡ self.entry.ghost_name }
+        ensures lent { result.now.buffer.ghost_name ≡ self.old.buffer.ghost_name }
+        ensures adds { Adds (flat_map R.ReplyRow.told rows.now) self.old result.now }
     {
-        let mut reply = self;
         for row in rows {
-            reply = row.behind(reply);
+            row.behind(self);
         }
-        reply
-    }
-
-    pub(crate) fn as_slice(&self) -> &[u8]
-        ensures value { result.now ≡ self.now }
-        ensures fits { length result.now ≤ LONGEST_REPLY }
-    {
-        self.bytes.as_slice()
-    }
-
-    // Writes the reply to the front of a buffer, and answers its length.
-    pub(crate) fn write_to(&self, buffer: &mut [u8]) -> usize
-        requires { LONGEST_REPLY ≤ length buffer.old }
-        ensures count { result ≡ length self.now }
-        ensures wrote { Wrote self.now buffer.old buffer.new }
-    {
-        let bytes = self.bytes.as_slice();
-        let count = bytes.len();
-        buffer[..count].copy_from_slice(bytes);
-        count
+        self
     }
 }
 
@@ -79,10 +63,13 @@ pub(crate) trait ReplyRow: Copy {
 
     ghost width: { ℕ };
 
-    // The reply with the row behind it.
-    fn behind(self, reply: Reply) -> Reply
-        requires { length reply + width ≤ LONGEST_REPLY }
-        ensures { result ≡ reply ++ told self };
+    // Puts the row behind the reply.
+    fn behind(self, reply: &mut Reply)
+        requires { reply.old.length + width ≤ length reply.old.buffer.now }
+        ensures lent { reply.new.buffer.ghost_name ≡ reply.old.buffer.ghost_name }
+        ensures room { length reply.new.buffer.now ≡ length reply.old.buffer.now }
+        ensures count { reply.new.length ≡ reply.old.length + width }
+        ensures adds { Adds (told self) reply.old reply.new };
 
     ghost long: { (row : Self) → length (told row) ≡ width };
 }
@@ -94,8 +81,8 @@ impl ReplyRow for Ruling {
 
     ghost long = { Prim.search rules };
 
-    fn behind(self, reply: Reply) -> Reply {
-        reply.with(&[Mark::RulingRow.byte()]).with(&self.bytes())
+    fn behind(self, reply: &mut Reply) {
+        reply.with(&[Mark::RulingRow.byte()]).with(&self.bytes());
     }
 }
 
@@ -106,7 +93,7 @@ impl ReplyRow for UpwardReading {
 
     ghost long = { Prim.search rules };
 
-    fn behind(self, reply: Reply) -> Reply {
-        reply.with(&[Mark::UpwardRow.byte(), self.drop, self.reader, self.read])
+    fn behind(self, reply: &mut Reply) {
+        reply.with(&[Mark::UpwardRow.byte(), self.drop, self.reader, self.read]);
     }
 }

@@ -3,6 +3,7 @@ ghost use Rattle.std.specs.Prelude.{MatchResult};
 ghost use Rattle.reader.specs.Streams.{ServedSoFar};
 ghost use Rattle.reader.specs.StreamLaw.{Served, ServedBoth, ServedBothSoFar};
 
+use crate::limits::LONGEST_REPLY;
 use crate::reader::Reader;
 use crate::replies::denial;
 use books::Book;
@@ -20,14 +21,19 @@ pub fn serve<B: Book>(
 {
     let mut replies = Vec::new(heap);
     let mut reader = Reader::new(input);
-    if let Err(fault) = reader.check_length() {
-        replies.extend_from_slice(denial(fault, 0).as_slice())?;
-        return Ok(replies);
+    let mut reply = [0u8; LONGEST_REPLY];
+    loop {
+        match reader.turn(marker, &mut reply) {
+            Ok(Some(length)) => replies.extend_from_slice(&reply[..length])?,
+            Ok(None) => return Ok(replies),
+            // the buffer is long enough, so the input is too long
+            Err(fault) => {
+                let length = denial(fault, 0, &mut reply);
+                replies.extend_from_slice(&reply[..length])?;
+                return Ok(replies);
+            }
+        }
     }
-    while let Some(reply) = reader.next_reply(marker) {
-        replies.extend_from_slice(reply.as_slice())?;
-    }
-    Ok(replies)
 }
 
 // The replies to two inputs.

@@ -1,11 +1,15 @@
--- Each record takes the stream further, and at the end of the input it is whole.
-use Rattle.std.proofs.Common.{[], ◌++◌, List, ℕ, vec_items, sym, refl, ap, ◌∙◌, subst, inr}
+-- Each turn takes the stream further, ends it, or is refused for an input that is too long.
+use Rattle.std.proofs.Common.{◌≡◌, [], ◌++◌, List, ℕ, take, vec_items, sym, refl, ap, ◌∙◌, subst, inl, inr, arith}
 use Rattle.std.proofs.lemmas.Result.{err_from_is_err_and}
+use Rattle.answers.specs.declared.fault.Fault.{Fault}
+use Rattle.answers.specs.declared.fault.Refusal.TheVariants.{InputTooLong}
 use Rattle.marker.specs.declared.marker.Marker.{Marker}
 use Rattle.runs.proofs.CallKinds.{Promises}
-use Rattle.reader.specs.Streams.{Stream}
+use Rattle.reader.specs.Replies.{fault_reply}
+use Rattle.reader.specs.Streams.{Stream, ServedSoFar}
 use Rattle.reader.specs.StreamLaw.{LawfulStream}
-use Rattle.reader.proofs.Streaming.{UnderWay, at_start, broken_off, taken, finished}
+use Rattle.reader.specs.Turns.{reader_fault}
+use Rattle.reader.proofs.Streaming.{at_start, broken_off, not_begun, turned_on, turned_off, refused, written_there}
 use Rattle.reader.proofs.StreamLaws.{stream_law}
 use Rattle.reader.proofs.serving.serve.Given as given
 use Rattle.reader.proofs.serving.serve.Goals as goal
@@ -18,34 +22,53 @@ lawful g X =
     let p = promises g in
     (X, stream_law g.B.Book g.B.Book p p X X, λ s' e' input' output' Y. stream_law g.B.Book g.B.Book p p X Y)
 
-pub returns-in_err-extend_from_slice : goal.returns-in_err-extend_from_slice
-returns-in_err-extend_from_slice g c =
-    let p = err_from_is_err_and c.from_residual.result c.from_residual.ensures.1 in
-    rw p.1 (broken_off g.B.Book c.args.marker.now c.args.input.now 0 [] _ (at_start g.B.Book c.args.marker.now c.args.input.now 0 [] refl refl))
+-- all that was put out is the denial
+denial_alone : {out before reply : List ℕ} {why : Fault} → out ≡ before ++ reply → before ≡ [] → reply ≡ fault_reply 0 why → why ≡ reader_fault InputTooLong → out ≡ fault_reply 0 (reader_fault InputTooLong)
+denial_alone {reply = reply} put none told is = put ∙ ap (λ xs. xs ++ reply) none ∙ told ∙ ap (fault_reply 0) is
 
-pub loop-reply-init : goal.loop-reply-init
-loop-reply-init g c = (
-  rw (← c.new-reader.ensures.input) c.in_default.ensures,
+pub loop-length-init : goal.loop-length-init
+loop-length-init g c = (
   c.new-reader.ensures.input,
+  refl,
+  λ _. (c.new-replies.ensures.items, refl),
   at_start g.B.Book c.args.marker.now c.args.input.now c.new-reader.result.place (vec_items c.new-replies.result) c.new-reader.ensures.place c.new-replies.ensures.items,
 )
 
-pub loop-reply-preserved : goal.loop-reply-preserved
-loop-reply-preserved g c =
-    let further = taken g.B.Book c.args.marker.now c.loop-reply.invariant.1 c.loop-reply.invariant.2 c.in-Some.reply c.in-Some.ensures.takes in
-    let put_out = c.in_ok-extend_from_slice-2.ensures.items ∙ ap (λ (xs : List ℕ). vec_items c.loop-reply.replies ++ xs) c.as_slice-in-Some.ensures.value in (
-      c.loop-reply.invariant.0,
-      c.in-Some.ensures.input ∙ c.loop-reply.invariant.1,
-      subst (λ (xs : List ℕ). UnderWay g.B.Book c.args.marker.now c.args.input.now c.next_reply.new.self.place xs c.next_reply.new.marker) (sym put_out) further.on,
+pub loop-length-preserved : goal.loop-length-preserved
+loop-length-preserved g c =
+    let (further, within, small) = turned_on g.B.Book c.args.marker.now c.loop-length.invariant.0 c.loop-length.invariant.3 c.in-Ok-Some.length c.in-Ok-Some.field-0 c.in-Ok-Some.field-0-is c.in-Ok-Some.ensures.turned in (
+      c.in-Ok-Some.ensures.input ∙ c.loop-length.invariant.0,
+      omega (arith, c.turn.auto.reply, c.loop-length.invariant.1),
+      λ long. absurd (omega arith),
+      rw c.in_ok-extend_from_slice-in-Ok-Some.ensures.items further.on,
     )
 
-pub returns-in_err-extend_from_slice-2 : goal.returns-in_err-extend_from_slice-2
-returns-in_err-extend_from_slice-2 g c =
-    let p = err_from_is_err_and c.from_residual-in_err-extend_from_slice-2.result c.from_residual-in_err-extend_from_slice-2.ensures.1 in
-    let further = taken g.B.Book c.args.marker.now c.loop-reply.invariant.1 c.loop-reply.invariant.2 c.in-Some.reply c.in-Some.ensures.takes in
+pub returns-in_err-extend_from_slice-in-Ok-Some : goal.returns-in_err-extend_from_slice-in-Ok-Some
+returns-in_err-extend_from_slice-in-Ok-Some g c =
+    let p = err_from_is_err_and c.from_residual.result c.from_residual.ensures.1 in
+    let (further, within, small) = turned_on g.B.Book c.args.marker.now c.loop-length.invariant.0 c.loop-length.invariant.3 c.in-Ok-Some.length c.in-Ok-Some.field-0 c.in-Ok-Some.field-0-is c.in-Ok-Some.ensures.turned in
     rw p.1
-    (broken_off g.B.Book c.args.marker.now c.args.input.now c.next_reply.new.self.place (vec_items c.loop-reply.replies ++ c.in-Some.reply) c.next_reply.new.marker further.on)
+    (broken_off g.B.Book c.args.marker.now c.args.input.now c.turn.new.self.place (vec_items c.loop-length.replies ++ take c.in-Ok-Some.length c.turn.new.reply) c.turn.new.marker further.on)
 
-pub returns : goal.returns
-returns g c =
-    inr (c.loop-reply.invariant.0, lawful g (finished g.B.Book c.args.marker.now c.loop-reply.invariant.1 c.loop-reply.invariant.2 c.in_default-next_reply.ensures.takes))
+-- a turn that found no record ends the stream
+pub returns-in-Ok-None : goal.returns-in-Ok-None
+returns-in-Ok-None g c =
+    let (small, whole) = turned_off g.B.Book c.args.marker.now c.loop-length.invariant.0 c.loop-length.invariant.3 c.in-Ok-None.field-0 c.in-Ok-None.field-0-is c.in-Ok-None.ensures.turned in
+    inr (small, lawful g whole)
+
+-- a turn that was refused: the input is too long, and nothing was done
+pub returns-in_err-extend_from_slice-in-Err : goal.returns-in_err-extend_from_slice-in-Err
+returns-in_err-extend_from_slice-in-Err g c =
+    let p = err_from_is_err_and c.from_residual-in_err-extend_from_slice-in-Err.result c.from_residual-in_err-extend_from_slice-in-Err.ensures.1 in
+    let (long, _, same) = refused g.B.Book c.args.marker.now c.loop-length.invariant.0 c.loop-length.invariant.3 c.in-Err.fault (omega (arith, c.loop-length.invariant.1)) c.in-Err.ensures.turned in
+    rw p.1 (subst (ServedSoFar g.B.Book c.args.marker.now c.args.input.now) (sym (same ∙ (c.loop-length.invariant.2 long).1)) (not_begun g.B.Book c.args.marker.now c.args.input.now))
+
+pub returns-in-Err : goal.returns-in-Err
+returns-in-Err g c =
+    let (long, why, same) = refused g.B.Book c.args.marker.now c.loop-length.invariant.0 c.loop-length.invariant.3 c.in-Err.fault (omega (arith, c.loop-length.invariant.1)) c.in-Err.ensures.turned in
+    let (nothing, untouched) = c.loop-length.invariant.2 long in
+    inl (
+      long,
+      denial_alone c.in_ok-extend_from_slice-in-Err.ensures.items nothing (written_there c.denial-length.ensures) why,
+      same ∙ untouched,
+    )
