@@ -8,5 +8,12 @@ use std::io;
 
 fn main(rt: HostRuntime) -> io::Result<()> {
     let mut marker = Marker::new(RuleBook::new());
-    serve_through(&mut marker, rt.stdin(), &mut rt.stdout(), rt.alloc())
+    // this writer gives up where it is interrupted again and again
+    let stdout = rt.stdout();
+    serve_through(
+        &mut marker,
+        rt.stdin(),
+        &mut io::writer(&stdout),
+        rt.alloc(),
+    )
 }
