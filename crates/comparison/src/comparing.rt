@@ -4,13 +4,10 @@ use marker::Marker;
 use rulings::Ruling;
 use runs::{Answer, Call, compare};
 use std::io;
-use telling::say;
+use telling::{Rulings, Title};
 
 pub(crate) fn compare_books(rt: &HostRuntime) -> io::Result<()> {
-    say::title(
-        rt,
-        "Two books compared: 0 and 1 strike each other, as rules and as protests",
-    )?;
+    rt.println(Title("Two books compared: 0 and 1 strike each other, as rules and as protests"))?;
     let mutual = [
         Call::Open { size: 2 },
         unless(0, &[1]),
@@ -36,7 +33,7 @@ pub(crate) fn compare_books(rt: &HostRuntime) -> io::Result<()> {
         Call::List { rows: 4 },
     ];
     say_compared(rt, &wordy, &mutual)?;
-    say::title(rt, "And with a book in which 0 stands unopposed")?;
+    rt.println(Title("And with a book in which 0 stands unopposed"))?;
     say_compared(rt, &wordy, &settled)?;
     println!(rt;
         "  Listings are proved equal exactly when the books, read whole, have the same stable rulings: that settles it."
@@ -62,8 +59,9 @@ fn say_compared(rt: &HostRuntime, calls: &[Call], others: &[Call]) -> io::Result
             Some(Ok(Answer::Listing { rows: listed, .. })),
             Some(Ok(Answer::Listing { rows: other, .. })),
         ) => {
-            say_rows(rt, "the rule book lists", listed)?;
-            say_rows(rt, "the protest book lists", other)?;
+            let (ruled, protested) = (Rulings(listed), Rulings(other));
+            println!(rt; "  the rule book lists{ruled}")?;
+            println!(rt; "  the protest book lists{protested}")?;
             if listed == other {
                 println!(rt; "  equal: the two books have the same stable rulings")
             } else {
@@ -72,9 +70,4 @@ fn say_compared(rt: &HostRuntime, calls: &[Call], others: &[Call]) -> io::Result
         }
         _ => println!(rt; "  no two listings to compare"),
     }
-}
-
-fn say_rows(rt: &HostRuntime, what: &str, rows: &[Ruling]) -> io::Result<()> {
-    print!(rt; "  {what}")?;
-    say::rulings(rt, rows)
 }

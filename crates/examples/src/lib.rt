@@ -14,6 +14,8 @@ mod reading;
 #[cfg(test)]
 mod records;
 #[cfg(test)]
+mod records_in_words;
+#[cfg(test)]
 mod replays;
 #[cfg(test)]
 mod rulings_as_sets;

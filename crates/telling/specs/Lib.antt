@@ -1,2 +1,3 @@
--- The example book as it is written, and what opening a marker with it does.
+-- The example book as it is written, what opening a marker with it does, and what a marker answers where what is lent to it is empty.
 pub mod Example
+pub mod Asking

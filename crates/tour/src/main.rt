@@ -5,7 +5,7 @@ mod by_chapters;
 mod protests;
 mod rules;
 
-use std::io;
+use std::{fmt, io};
 
 fn main(rt: HostRuntime) -> io::Result<()> {
     println!(rt; "The marker judges rulings by a book: is a set of points a stable model of it?")?;
@@ -14,4 +14,9 @@ fn main(rt: HostRuntime) -> io::Result<()> {
     by_chapters::read(&rt)?;
     protests::judge(&rt)?;
     by_chapters::audit(&rt)
+}
+
+// A line of what came of a call.
+fn say(rt: &impl Print, what: impl fmt::Display + Drop) -> io::Result<()> {
+    println!(rt; "  {what}")
 }

@@ -1,14 +1,15 @@
 // A small protest book.
+use crate::say;
 use books::{Book, Entry, ProtestBook};
 use marker::Marker;
 use std::io;
-use telling::{enter, say};
+use telling::{Outcome, Title, enter, judged, read};
 
 // 0, 1 and 2 are lodged; 0 protests 1, and 1 protests 2.
 pub(crate) fn judge(rt: &impl Print) -> io::Result<()> {
-    say::title(rt, "A book of protests: 0 protests 1, 1 protests 2")?;
+    rt.println(Title("A book of protests: 0 protests 1, 1 protests 2"))?;
     let mut marker = Marker::new(ProtestBook::new());
-    say::outcome(rt, "open a book of 3 points", marker.open(3))?;
+    say(rt, Outcome("open a book of 3 points", marker.open(3)))?;
     for entry in [
         Entry::new(0, &[], &[]),
         Entry::new(1, &[], &[0]),
@@ -16,11 +17,11 @@ pub(crate) fn judge(rt: &impl Print) -> io::Result<()> {
     ] {
         let point = entry.point;
         let lodged = enter(&mut marker, entry);
-        say::outcome(rt, format_args!("{point} is lodged"), lodged)?;
+        say(rt, Outcome(format_args!("{point} is lodged"), lodged))?;
     }
-    say::judge(rt, &marker, &[0, 2])?;
-    say::judge(rt, &marker, &[1])?;
-    say::read(rt, &marker)?;
+    say(rt, judged(&marker, &[0, 2]))?;
+    say(rt, judged(&marker, &[1]))?;
+    say(rt, read(&marker))?;
     let entry = Entry::new(2, &[0], &[]);
-    say::outcome(rt, entry, enter(&mut marker, entry))
+    say(rt, Outcome(entry, enter(&mut marker, entry)))
 }
