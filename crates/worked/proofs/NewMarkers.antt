@@ -7,12 +7,11 @@ use Rattle.semantics.specs.Meaning.{Meaning}
 use Rattle.books.specs.declared.entry.Entry.{Entry}
 use Rattle.books.specs.RuleBook.{entries, meaning_of}
 use Rattle.books.specs.ProtestBook.{protest_meaning}
-use Rattle.books.specs.Lines.{Says}
 use Rattle.chapters.specs.declared.chapters.Chapters.{Chapters}
 use Rattle.chapters.proofs.Numbers.{chapter_0_of_16}
 use Rattle.marker.specs.declared.marker.Marker.{Marker}
 use Rattle.marker.specs.State.{book_of, chapters_of, placing}
-use Rattle.worked.specs.Books.{OfEach, OfRules, OfProtests, NewOverRules, NewOverProtests, chapters}
+use Rattle.worked.specs.Books.{Is, OfEach, OfRules, OfProtests, NewOverRules, NewOverProtests, chapters}
 use Rattle.worked.specs.Answers.{GivesListing}
 use Rattle.worked.proofs.Standing.{tables_place}
 
@@ -36,10 +35,10 @@ module _ (sets : List (List ℕ)) (effort : ℕ) where
         some = let (b, is) = h.some in (new_marker b, record { sized = is.sized; empty = none (entries b) is.written; placed = refl });
         each = λ m new. subst (Given (meaning_of (book_of m))) (sym (tables_place (chapters_of m) [] (omega arith) new.placed))
             (h.each (book_of m)
-            (record { sized = new.sized; written = subst (λ (es : List Entry). AllZip Says es []) (sym new.empty) tt }));
+            (record { sized = new.sized; written = subst (λ (es : List Entry). AllZip Is es []) (sym new.empty) tt }));
       }
     where
-      none : (es : List Entry) → AllZip Says es [] → es ≡ []
+      none : (es : List Entry) → AllZip Is es [] → es ≡ []
       none [] w = refl
       none (e ∷ es) w = absurd w
 

@@ -29,7 +29,7 @@ use Rattle.worked.proofs.NewMarkers.{new_rules, new_protests}
 
 module _ (n : ℕ) (ls : List Line) (inside : rules_inside n ls ≡ true) where
   rules : (So : Meaning → Type 0) → (Lawful (by_lines n ls) → So (by_lines n ls)) → OfRules n ls So
-  rules So h = record { some = some_rules n ls inside; each = of_rules n ls inside So h }
+  rules So h = record { some = some_rules n ls inside; each = of_rules n ls So h }
 
   judge_rules : (points X : List ℕ) (v : Verdict) → judge_check (by_lines n ls) points X v ≡ true → OfRules n ls (λ m. GivesVerdict m points v)
   judge_rules points X v h = rules (λ m. GivesVerdict m points v) (λ l. judges (by_lines n ls) points X v l h)

@@ -4,7 +4,6 @@ use Rattle.std.proofs.Common.{◌≡◌, ℕ, ◌-◌, ◌<◌, ◌≤◌, Bool,
 use mathlib.Core.Path.{fun_ext}
 use Rattle.std.proofs.lemmas.List.FromFn.{length-map-range_with_len, get_or-map-range_with_len}
 use Rattle.std.proofs.lemmas.List.{length-map, get_or_past, get_or_append_left, get_or-append_right, get_or-replicate}
-use Rattle.std.proofs.Math.Bool.{and-true, and-false}
 use Rattle.std.proofs.lemmas.Bool.{cases_lt, and_parts, or_cases, false_from_ne_true}
 use Rattle.std.proofs.lemmas.List.Sums.{AllPass-from_list_all}
 use Rattle.std.proofs.lemmas.List.Elements.{All-map}
@@ -12,9 +11,8 @@ use Rattle.std.specs.Option.{option_map_or}
 use Rattle.rulings.specs.Points.{Points, listed}
 use Rattle.rulings.specs.Rulings.{has}
 use Rattle.rulings.specs.declared.ruling.Ruling.{Ruling}
-use Rattle.rulings.proofs.Bytes.{has_past}
 use Rattle.semantics.proofs.Tests.{false_is_not_true}
-use Rattle.semantics.proofs.RulingOf.{ruling_of, ruling_of_has, ruling_of_same}
+use Rattle.semantics.proofs.RulingOf.{ruling_of, ruling_of_same}
 use Rattle.books.specs.declared.entry.Entry.{Entry}
 use Rattle.books.specs.declared.rule_book.RuleBook.{RuleBook}
 use Rattle.books.specs.declared.protesters.Protesters.{Protesters as Rows}
@@ -23,17 +21,13 @@ use Rattle.books.specs.Entries.{names}
 use Rattle.books.specs.RuleBook.{entry}
 use Rattle.books.specs.Protesters.{row, is_lodged, protesters_of}
 use Rattle.chapters.specs.Table.{chapter_of}
-use Rattle.books.specs.Lines.{Line, Says}
-use Rattle.worked.specs.Books.{Rules, protested, Protests, chapters, TablesPlace}
+use Rattle.books.specs.Lines.{Line}
+use Rattle.worked.specs.Books.{Is, Rules, protested, Protests, chapters, TablesPlace}
 use Rattle.worked.proofs.Checks.{within, within_use}
 
--- the ruling of a set has its points below 128
-pointed : (x : Points) (a : ℕ) → has (ruling_of x) a ≡ x a && ltb a 128
-pointed x a =
-    elim (cases_lt a 128) [
-      | inl l ↦ rw (lt-ltb a 128 l, and-true (x a)) (ruling_of_has x a l)
-      | inr l ↦ rw (le-ltb a 128 l, and-false (x a)) (has_past (ruling_of x) a l)
-    ]
+-- the ruling of a list of points below n, where n is at most 128
+pointed : (n : ℕ) → n ≤ 128 → (ps : List ℕ) → within n ps ≡ true → has (ruling_of (listed ps)) ≡ listed ps
+pointed n most ps h = ruling_of_same (listed ps) (λ a e. let i = within_use n ps h a e in omega arith)
 
 -- ---- rules
 
@@ -46,29 +40,31 @@ rules_inside n ls = leb 1 n && (leb n 128 && (leb (length ls) 256 && list_all (l
 entry_of : Line → Entry
 entry_of l = entry l.point (ruling_of (listed l.supporters)) (ruling_of (listed l.strikers))
 
-entry_says : (l : Line) → Says (entry_of l) l
-unfolding entry_of
-entry_says l = record { point = refl; supporters = pointed (listed l.supporters); strikers = pointed (listed l.strikers) }
+module _ (n : ℕ) (most : n ≤ 128) where
+  -- one line that is inside, and its entry
+  module _ (l : Line) (inside : line_inside n l ≡ true) where
+    entry_low : (entry_of l).point < n
+    unfolding entry_of
+    entry_low = ltb-true l.point n (and_parts (ltb l.point n) _ inside).0
 
--- one line that is inside, and its entry
-module _ (n : ℕ) (l : Line) (inside : line_inside n l ≡ true) where
-  entry_low : (entry_of l).point < n
-  unfolding entry_of
-  entry_low = ltb-true l.point n (and_parts (ltb l.point n) _ inside).0
+    within_both : (within n l.supporters ≡ true) × (within n l.strikers ≡ true)
+    within_both = and_parts (within n l.supporters) _ (and_parts (ltb l.point n) _ inside).1
 
-  pub within_both : (within n l.supporters ≡ true) × (within n l.strikers ≡ true)
-  within_both = and_parts (within n l.supporters) _ (and_parts (ltb l.point n) _ inside).1
+    entry_is : Is (entry_of l) l
+    unfolding entry_of
+    entry_is = record { point = refl; supporters = pointed n most l.supporters within_both.0; strikers = pointed n most l.strikers within_both.1 }
 
-  names_inside : (b : ℕ) → names (entry_of l) b ≡ true → b < n
-  unfolding entry_of
-  names_inside b h = elim (or_cases (has (ruling_of (listed l.supporters)) b) _ h) [
-    | inl e ↦ within_use n l.supporters within_both.0 b (and_parts _ _ (sym (pointed (listed l.supporters) b) ∙ e)).0
-    | inr e ↦ within_use n l.strikers within_both.1 b (and_parts _ _ (sym (pointed (listed l.strikers) b) ∙ e)).0
-  ]
+    names_inside : (b : ℕ) → names (entry_of l) b ≡ true → b < n
+    names_inside b h = elim (or_cases (has (entry_of l).supporters b) _ h) [
+      | inl e ↦ within_use n l.supporters within_both.0 b (sym (ap (λ (x : Points). x b) entry_is.supporters) ∙ e)
+      | inr e ↦ within_use n l.strikers within_both.1 b (sym (ap (λ (x : Points). x b) entry_is.strikers) ∙ e)
+    ]
 
-entries_say : (ls : List Line) → AllZip Says (map entry_of ls) ls
-entries_say [] = tt
-entries_say (l ∷ ls) = (entry_says l, entries_say ls)
+  entries_are : (ls : List Line) → list_all (line_inside n) ls ≡ true → AllZip Is (map entry_of ls) ls
+  entries_are [] h = tt
+  entries_are (l ∷ ls) h =
+      let (here, rest) = and_parts (line_inside n l) _ h in
+      (entry_is l here, entries_are ls rest)
 
 pub some_rules : (n : ℕ) (ls : List Line) → rules_inside n ls ≡ true → (b : RuleBook) × Rules n ls b
 some_rules n ls h =
@@ -84,10 +80,10 @@ some_rules n ls h =
         least = leb-true 1 n p.0;
         most = most;
         room = omega (arith, length-map ls entry_of, leb-true (length ls) 256 r.0);
-        heads = All-map (λ (e : Entry). e.point < n) entry_of ls (λ k l i. entry_low n (slice_index_or ls k l) (each k l i));
-        bodies = All-map (λ (e : Entry). (b : ℕ) → names e b ≡ true → b < n) entry_of ls (λ k l i. names_inside n (slice_index_or ls k l) (each k l i));
+        heads = All-map (λ (e : Entry). e.point < n) entry_of ls (λ k l i. entry_low n most (slice_index_or ls k l) (each k l i));
+        bodies = All-map (λ (e : Entry). (b : ℕ) → names e b ≡ true → b < n) entry_of ls (λ k l i. names_inside n most (slice_index_or ls k l) (each k l i));
       },
-      record { sized = refl; written = entries_say ls },
+      record { sized = refl; written = entries_are n most ls inside },
     )
 
 -- ---- protests

@@ -1,6 +1,6 @@
 -- What written books mean, by lists of points.
 use Rattle.std.specs.List.{list_all, list_any, AllZip}
-use Rattle.std.proofs.Common.{◌≡◌, ℕ, ◌<◌, Bool, true, false, not, ◌&&◌, ◌||◌, eqb, ltb, leb, ◌≤◌, ◌⊎◌, List, [], ◌∷◌, length, sym, refl, ap, ◌∙◌, subst, ap₂, inl, inr, arith, eq-eqb, eqb-true, lt-ltb, leb-true}
+use Rattle.std.proofs.Common.{◌≡◌, ℕ, ◌<◌, Bool, true, false, not, ◌&&◌, ◌||◌, eqb, ◌⊎◌, List, [], ◌∷◌, sym, refl, ap, ◌∙◌, subst, ap₂, inl, inr, arith, eq-eqb, eqb-true}
 use Rattle.std.proofs.lemmas.Bool.{not-true, and_parts, and_from, or_cases, or_left, or_right}
 use mathlib.Core.Path.{fun_ext}
 use Rattle.rulings.specs.Points.{Points, Part, Disjoint, listed}
@@ -17,10 +17,9 @@ use Rattle.books.specs.Tests.{nand_of, nand_use}
 use Rattle.rulings.proofs.Bytes.{has_below}
 use Rattle.books.specs.EntriesLemmas.{covers_use, covers_of, avoids_use, avoids_of, entries_lawful}
 use Rattle.books.specs.Protests.{protests_lawful}
-use Rattle.books.specs.Lines.{Line, Says}
-use Rattle.worked.specs.Books.{Rules, protested, Protests}
-use Rattle.worked.proofs.Checks.{all_listed, listed_all, within, within_use}
-use Rattle.worked.proofs.Standing.{line_inside, within_both, rules_inside}
+use Rattle.books.specs.Lines.{Line}
+use Rattle.worked.specs.Books.{Is, Rules, protested, Protests}
+use Rattle.worked.proofs.Checks.{all_listed, listed_all}
 
 -- the line is for point a, and a derives by it under (x, y)
 abbrev pub line_fires : ℕ → Points → Points → Line → Bool
@@ -46,65 +45,35 @@ module _ (p : Points) (small : (b : ℕ) → p b ≡ true → b < 128) (ps : Lis
       (λ h. listed_all (λ b. not (y b)) ps (λ b q. ap not (avoids_use p small y h b (ap (λ (z : Points). z b) is ∙ q))))
       (λ h. avoids_of p small y (λ b q. not-true (y b) (all_listed (λ c. not (y c)) ps h b (sym (ap (λ (z : Points). z b) is) ∙ q))))
 
--- the set of a list of points below n, where n is at most 128
-all_said : (n : ℕ) → n ≤ 128 → (p : Points) (ps : List ℕ) → within n ps ≡ true → ((a : ℕ) → p a ≡ listed ps a && ltb a 128) → p ≡ listed ps
-all_said n most p ps low said = fun_ext (λ a. said a ∙ here a (listed ps a) refl)
-  where
-    here : (a : ℕ) (t : Bool) → listed ps a ≡ t → t && ltb a 128 ≡ t
-    here a true e = lt-ltb a 128 (let i = within_use n ps low a e in omega arith)
-    here a false e = refl
+fires_is : (a : ℕ) (x y : Points) (e : Entry) (l : Line) → Is e l → fires a x y e ≡ line_fires a x y l
+fires_is a x y e l is =
+    ap₂ ◌&&◌ (ap (λ (c : ℕ). eqb c a) is.point)
+    (ap₂ ◌&&◌ (covers_all (has e.supporters) (has_below e.supporters) l.supporters is.supporters x)
+    (avoids_all (has e.strikers) (has_below e.strikers) l.strikers is.strikers y))
 
-module _ (n : ℕ) (most : n ≤ 128) where
-  -- an entry and the line that it is, the points of which are below n
-  module _ (e : Entry) (l : Line) (is : Says e l) (inside : line_inside n l ≡ true) where
-    supporters_are : has e.supporters ≡ listed l.supporters
-    supporters_are = all_said n most (has e.supporters) l.supporters (within_both n l inside).0 is.supporters
+looks_is : (a b : ℕ) (e : Entry) (l : Line) → Is e l → looks_at a b e ≡ line_looks_at a b l
+looks_is a b e l is =
+    ap₂ ◌&&◌ (ap (λ (c : ℕ). eqb c a) is.point)
+    (ap₂ ◌||◌ (ap (λ (z : Points). z b) is.supporters) (ap (λ (z : Points). z b) is.strikers))
 
-    strikers_are : has e.strikers ≡ listed l.strikers
-    strikers_are = all_said n most (has e.strikers) l.strikers (within_both n l inside).1 is.strikers
+any_are : (f : Entry → Bool) (g : Line → Bool) → ((e : Entry) (l : Line) → Is e l → f e ≡ g l) →
+    (es : List Entry) (ls : List Line) → AllZip Is es ls → list_any f es ≡ list_any g ls
+any_are f g h [] [] w = refl
+any_are f g h [] (l ∷ ls) w = absurd w
+any_are f g h (e ∷ es) [] w = absurd w
+any_are f g h (e ∷ es) (l ∷ ls) w = ap₂ ◌||◌ (h e l w.0) (any_are f g h es ls w.1)
 
-    fires_is : (a : ℕ) (x y : Points) → fires a x y e ≡ line_fires a x y l
-    fires_is a x y =
-        ap₂ ◌&&◌ (ap (λ (c : ℕ). eqb c a) is.point)
-        (ap₂ ◌&&◌ (covers_all (has e.supporters) (has_below e.supporters) l.supporters supporters_are x)
-        (avoids_all (has e.strikers) (has_below e.strikers) l.strikers strikers_are y))
-
-    looks_is : (a b : ℕ) → looks_at a b e ≡ line_looks_at a b l
-    looks_is a b =
-        ap₂ ◌&&◌ (ap (λ (c : ℕ). eqb c a) is.point)
-        (ap₂ ◌||◌ (ap (λ (z : Points). z b) supporters_are) (ap (λ (z : Points). z b) strikers_are))
-
-  any_are : (f : Entry → Bool) (g : Line → Bool) → ((e : Entry) (l : Line) → Says e l → line_inside n l ≡ true → f e ≡ g l) →
-      (es : List Entry) (ls : List Line) → AllZip Says es ls → list_all (line_inside n) ls ≡ true → list_any f es ≡ list_any g ls
-  any_are f g h [] [] w inside = refl
-  any_are f g h [] (l ∷ ls) w inside = absurd w
-  any_are f g h (e ∷ es) [] w inside = absurd w
-  any_are f g h (e ∷ es) (l ∷ ls) w inside =
-      let (here, rest) = and_parts (line_inside n l) _ inside in
-      ap₂ ◌||◌ (h e l w.0 here) (any_are f g h es ls w.1 rest)
-
-rules_mean : (n : ℕ) (ls : List Line) → rules_inside n ls ≡ true → (b : RuleBook) → Rules n ls b → meaning_of b ≡ by_lines n ls
-rules_mean n ls h b r = λ i. record {
+rules_mean : (n : ℕ) (ls : List Line) (b : RuleBook) → Rules n ls b → meaning_of b ≡ by_lines n ls
+rules_mean n ls b r = λ i. record {
   size = r.sized i;
-  derives = fun_ext (λ x. fun_ext (λ y. fun_ext (λ a.
-      any_are n most (fires a x y) (line_fires a x y) (λ e l is low. fires_is n most e l is low a x y) (entries b) ls r.written inside))) i;
-  reads = fun_ext (λ a. fun_ext (λ c.
-      any_are n most (looks_at a c) (line_looks_at a c) (λ e l is low. looks_is n most e l is low a c) (entries b) ls r.written inside)) i;
+  derives = fun_ext (λ x. fun_ext (λ y. fun_ext (λ a. any_are (fires a x y) (line_fires a x y) (fires_is a x y) (entries b) ls r.written))) i;
+  reads = fun_ext (λ a. fun_ext (λ c. any_are (looks_at a c) (line_looks_at a c) (looks_is a c) (entries b) ls r.written)) i;
 }
-  where
-    few : (leb n 128 ≡ true) × (leb (length ls) 256 && list_all (line_inside n) ls ≡ true)
-    few = and_parts (leb n 128) _ (and_parts (leb 1 n) _ h).1
-
-    most : n ≤ 128
-    most = leb-true n 128 few.0
-
-    inside : list_all (line_inside n) ls ≡ true
-    inside = (and_parts (leb (length ls) 256) _ few.1).1
 
 -- what holds of the meaning by lines holds of the books
-pub of_rules : (n : ℕ) (ls : List Line) → rules_inside n ls ≡ true → (So : Meaning → Type 0) → (Lawful (by_lines n ls) → So (by_lines n ls)) → (b : RuleBook) → Rules n ls b → So (meaning_of b)
-of_rules n ls inside So h b r =
-    let e = rules_mean n ls inside b r in
+pub of_rules : (n : ℕ) (ls : List Line) (So : Meaning → Type 0) → (Lawful (by_lines n ls) → So (by_lines n ls)) → (b : RuleBook) → Rules n ls b → So (meaning_of b)
+of_rules n ls So h b r =
+    let e = rules_mean n ls b r in
     subst So (sym e) (h (subst Lawful e (entries_lawful b.size (entries b) b.least b.most b.heads b.bodies)))
 
 -- ---- protests

@@ -1,22 +1,40 @@
 -- Books written down: rules by lists of points, protests by pairs, chapters by a list; and new markers.
-use Rattle.std.specs.Prelude.{◌≡◌, ℕ, ◌-◌, ◌≤◌, false, ◌&&◌, List, [], ◌++◌, length, replicate, ◌==◌, slice_index}
-use Rattle.std.specs.List.{AllZip, list_any}
+use Rattle.std.specs.Prelude.{◌≡◌, ℕ, ◌-◌, ◌<◌, ◌≤◌, true, false, ◌&&◌, List, [], ◌++◌, length, replicate, ◌==◌, slice_index}
+use Rattle.std.specs.List.{All, AllZip, list_any}
 use Rattle.rulings.specs.Points.{Points, listed}
+use Rattle.rulings.specs.Rulings.{has}
 use Rattle.semantics.specs.Meaning.{Meaning}
+use Rattle.books.specs.declared.entry.Entry.{Entry}
 use Rattle.books.specs.declared.rule_book.RuleBook.{RuleBook}
 use Rattle.books.specs.declared.protest_book.ProtestBook.{ProtestBook}
 use Rattle.books.specs.RuleBook.{entries, meaning_of}
-use Rattle.books.specs.Lines.{Line, Says}
+use Rattle.books.specs.Lines.{Line}
 use Rattle.books.specs.ProtestBook.{lodged, protesters, protest_meaning}
 use Rattle.chapters.specs.declared.chapters.Chapters.{Chapters}
 use Rattle.chapters.specs.Table.{chapter_of, AllInChapter0}
 use Rattle.marker.specs.declared.marker.Marker.{Marker}
 use Rattle.marker.specs.State.{book_of, chapters_of}
 
+-- the entry is the line, point for point
+pub record Is (e : Entry) (l : Line) : Type 0 where
+  pub point : e.point ≡ l.point
+  pub supporters : has e.supporters ≡ listed l.supporters
+  pub strikers : has e.strikers ≡ listed l.strikers
+
 -- the rule book of size n with these lines
 pub record Rules (n : ℕ) (lines : List Line) (b : RuleBook) : Type 0 where
   pub sized : b.size ≡ n
-  pub written : AllZip Says (entries b) lines
+  pub written : AllZip Is (entries b) lines
+
+-- the line names only points below n
+pub record Inside (n : ℕ) (l : Line) : Type 0 where
+  pub point : l.point < n
+  pub supporters : (a : ℕ) → listed l.supporters a ≡ true → a < n
+  pub strikers : (a : ℕ) → listed l.strikers a ≡ true → a < n
+
+-- the lines of a rule book name only points of the book; so a line with point 200 is in none
+abbrev pub LinesInside : Type 0
+LinesInside = (n : ℕ) (lines : List Line) (b : RuleBook) → Rules n lines b → All (Inside n) lines
 
 -- (c, a) is among the pairs: c protests a
 abbrev pub protested : List (ℕ × ℕ) → ℕ → Points
