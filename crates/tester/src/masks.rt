@@ -1,4 +1,5 @@
 // Sets of at most six points, one bit for each: so few that every set can be tried.
+ghost use Rattle.std.specs.Prelude.{◌<◌};
 ghost use Rattle.std.specs.declared.ops.Range.{Range};
 
 use rulings::Ruling;
@@ -96,9 +97,11 @@ impl Mask {
         (0..8).find(|&point| self.has(point))
     }
 
-    // The place of the set among all sets.
-    pub(crate) fn place(self) -> usize {
-        usize::from(self.0)
+    // The place of the set among all sets of six points.
+    pub(crate) fn place(self) -> usize
+        ensures { result < 64 }
+    {
+        usize::from(self.0 & 63)
     }
 }
 
